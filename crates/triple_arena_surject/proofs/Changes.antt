@@ -13,7 +13,7 @@ use Rattle.triple_arena_chain.specs.laws.LinkLaws.{same_pointer, pointer_cases, 
 use Rattle.triple_arena_surject.specs.declared.member.Member.{Member}
 use Rattle.triple_arena_surject.specs.declared.member.Shared.{Shared}
 use Rattle.triple_arena_surject.specs.Rings.{counts, label, with_keys, with_value, CountsLess, IsSound, IsRingOfOne}
-use Rattle.triple_arena_surject.specs.Surject.{SurjectState, found_at, key_at, set_at, named, val_at, AreTogether, AreOfBoth, IsNewSet, IsAdded, IsValued, IsUnited, IsKeyRemoved, IsSetRemoved, with_val, with_val_in, key_of, value_of, state_of}
+use Rattle.triple_arena_surject.specs.Surject.{SurjectState, found_at, key_at, set_at, named, val_at, AreTogether, AreOfBoth, IsNewSet, IsAdded, IsValued, IsUnited, IsKeyRemoved, IsSetRemoved, put_val, put_val_in, with_val, key_of, value_of, state_of}
 use Rattle.triple_arena_surject.proofs.Options.{some_there}
 use Rattle.triple_arena_surject.proofs.Rounds.{label_stays}
 use Rattle.triple_arena_surject.proofs.Leaving.{alone_of_set, another}
@@ -63,17 +63,24 @@ module _ {V : Type 0} where
         (ap (λ o. option_map (map_entry value_of) (option_map (λ e. (e.0, record shared { value = w })) o)) (entry_at slots c shared found)
         ∙ sym (ap (option_map (λ e. (e.0, w))) (entry_at vals c shared.value (found_mapped value_of slots c ∙ ap (option_map value_of) found))))
 
-    pub state_written : {A P K : Type 0} (numbers : P → Pointer) (chains : ChainState A (Member P K)) (p : Pointer) (capacity more : ℕ) (limit other : Option ℕ)
-        → label numbers (nodes chains) p ≡ Some c → entry_count slots' ≡ entry_count slots → more ≡ capacity → other ≡ limit
-        → state_of numbers chains slots' more other ≡ with_val (state_of numbers chains slots capacity limit) (set_at (state_of numbers chains slots capacity limit) p) w
-    state_written numbers chains p capacity more limit other of len same_capacity same_limit =
-        ap (λ v. record (state_of numbers chains slots' more other) { vals = v })
-        (vals_written ∙ ap (λ o. with_val_in vals o w) (sym (set_is (read numbers chains slots capacity limit _ refl) p ∙ of)))
-        ∙ ap (λ n. record (with_val (state_of numbers chains slots more other) (set_at (state_of numbers chains slots capacity limit) p) w) { len_vals = n }) len
-        ∙ ap (λ n. with_val (state_of numbers chains slots n other) (set_at (state_of numbers chains slots capacity limit) p) w) same_capacity
-        ∙ ap (λ l. with_val (state_of numbers chains slots capacity l) (set_at (state_of numbers chains slots capacity limit) p) w) same_limit
+    -- as the arena of values puts it
+    module _ {B : Type 0} (slots_of : B → List (Option (ℕ × Shared V))) (put : B → ℕ → Shared V → B) (sets sets' : B) (here : slots_of sets ≡ slots) (put_so : sets' ≡ put sets c.0 (record shared { value = w })) where
+      arena_written : sets' ≡ put_val slots_of put sets c.0 w
+      arena_written = put_so ∙ sym (ap (λ s. put_val_in slots_of put sets c.0 w (entry_in s c.0)) here ∙ ap (put_val_in slots_of put sets c.0 w) (entry_at slots c shared found))
 
-module _ {A K V : Type 0} (s t : SurjectState A K V) where
+      pub state_written : {A P K : Type 0} (numbers : P → Pointer) (chains : ChainState A (Member P K)) (p : Pointer) (capacity more : ℕ) (limit other : Option ℕ)
+          → label numbers (nodes chains) p ≡ Some c → entry_count slots' ≡ entry_count slots → more ≡ capacity → other ≡ limit
+          → state_of numbers sets' chains slots' more other
+          ≡ with_val (put_val slots_of put) (state_of numbers sets chains slots capacity limit) (set_at (state_of numbers sets chains slots capacity limit) p) w
+      state_written numbers chains p capacity more limit other of len same_capacity same_limit =
+          ap (λ v. record (state_of numbers sets' chains slots' more other) { vals = v }) vals_written
+          ∙ ap (λ a. record (state_of numbers a chains slots' more other) { vals = with_value_in vals c.0 w }) arena_written
+          ∙ ap (λ n. record (with_val (put_val slots_of put) (state_of numbers sets chains slots more other) (Some c) w) { len_vals = n }) len
+          ∙ ap (λ n. with_val (put_val slots_of put) (state_of numbers sets chains slots n other) (Some c) w) same_capacity
+          ∙ ap (λ l. with_val (put_val slots_of put) (state_of numbers sets chains slots capacity l) (Some c) w) same_limit
+          ∙ sym (ap (λ o. with_val (put_val slots_of put) (state_of numbers sets chains slots capacity limit) o w) (set_is (read numbers sets chains slots capacity limit _ refl) p ∙ of))
+
+module _ {A B K V : Type 0} (s t : SurjectState A B K V) where
   -- the value is the same where the set's name is, and what that names
   val_same : (p : Pointer) → set_at t p ≡ set_at s p → ((c : Pointer) → set_at s p ≡ Some c → named t c ≡ named s c) → val_at t p ≡ val_at s p
   val_same p same names = ap (option_and_then (named t)) same ∙ by_name (set_at s p) names
@@ -134,18 +141,19 @@ module _ {A K V : Type 0} (s t : SurjectState A K V) where
         }
 
 -- the set of a pointer has the value that is written to it
-pub valued_so : {A K V : Type 0} (s : SurjectState A K V) (p c : Pointer) (was value : V) → set_at s p ≡ Some c → named s c ≡ Some was → IsValued s p value (with_val s (set_at s p) value)
-valued_so s p c was value of is =
-    subst (λ o. IsValued s p value (with_val s o value)) (sym of)
+pub valued_so : {A B K V : Type 0} (put : B → ℕ → V → B) (s : SurjectState A B K V) (p c : Pointer) (was value : V) → set_at s p ≡ Some c → named s c ≡ Some was
+    → IsValued s p value (with_val put s (set_at s p) value)
+valued_so put s p c was value of is =
+    subst (λ o. IsValued s p value (with_val put s o value)) (sym of)
     (record {
       keys = λ q. refl;
-      value = λ q with. ap (option_and_then (named (with_val s (Some c) value))) (sym with.1 ∙ of) ∙ written_there s.vals c was value is;
+      value = λ q with. ap (option_and_then (named (with_val put s (Some c) value))) (sym with.1 ∙ of) ∙ written_there s.vals c was value is;
       others = λ q other.
-          val_same s (with_val s (Some c) value) q refl
+          val_same s (with_val put s (Some c) value) q refl
           (λ d of_d. written_elsewhere s.vals c was value is d (λ e. other (some_there (set_at s p) c of, of ∙ sym (of_d ∙ ap Some e))));
     })
 
-module _ {A P K V : Type 0} {numbers : P → Pointer} {old new : Pointer → Option (Node (Member P K))} {slots slots' : List (Option (ℕ × Shared V))} {s t : SurjectState A K V}
+module _ {A B P K V : Type 0} {numbers : P → Pointer} {old new : Pointer → Option (Node (Member P K))} {slots slots' : List (Option (ℕ × Shared V))} {s t : SurjectState A B K V}
     (was : IsRead numbers old slots s) (is : IsRead numbers new slots' t) where
   -- a pointer finds the same key of the same set
   pub found_same : (q : Pointer) → value_at new q ≡ value_at old q → found_at t q ≡ found_at s q
@@ -249,7 +257,7 @@ module _ {A P K V : Type 0} {numbers : P → Pointer} {old new : Pointer → Opt
       (λ e far. named_but (numbers set) k all e (λ other. same e other far))
 
 -- what comes out with a key
-module _ {A P K V : Type 0} {numbers : P → Pointer} {found : Pointer → Option (Node (Member P K))} {slots : List (Option (ℕ × Shared V))} {s : SurjectState A K V} (is : IsRead numbers found slots s)
+module _ {A B P K V : Type 0} {numbers : P → Pointer} {found : Pointer → Option (Node (Member P K))} {slots : List (Option (ℕ × Shared V))} {s : SurjectState A B K V} (is : IsRead numbers found slots s)
     (linked : IsLinked found) (sound : IsSound numbers found (counts slots)) (p c : Pointer) (of : label numbers found p ≡ Some c) (after : Option (Shared V)) where
   -- the value of its set, where it was the last
   pub value_out : (out : Option V) → CountsLess (look_up slots c) after out → IsSome out → (out ≡ val_at s p) × ((q : Pointer) → AreTogether s p q → q ≡ p)

@@ -9,3 +9,5 @@ pub mod Unions
 pub mod Leaving
 pub mod Changes
 pub mod Renaming
+pub mod RingWalks
+pub mod Emptied

@@ -79,7 +79,7 @@ module _ {A P K : Type 0} (numbers : P → Pointer) (old new : ChainState A (Mem
       }
 
   -- the state after it
-  module _ {V : Type 0} {slots : List (Option (ℕ × Shared V))} {s t : SurjectState A K V} (was : IsRead numbers (nodes old) slots s) (is : IsRead numbers (nodes new) slots t) where
+  module _ {B V : Type 0} {slots : List (Option (ℕ × Shared V))} {s t : SurjectState A B K V} (was : IsRead numbers (nodes old) slots s) (is : IsRead numbers (nodes new) slots t) where
     pub renamed_state : IsRenamed s rename t
     renamed_state =
         record {

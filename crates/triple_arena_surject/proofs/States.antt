@@ -14,7 +14,7 @@ use Rattle.triple_arena_surject.specs.Surject.{SurjectState, found_at, key_at, s
 use Rattle.triple_arena_surject.proofs.Options.{some_there, none_there, some_is, some_of_map, map_of_some}
 use Rattle.triple_arena_surject.proofs.Rounds.{round_once, ring_from}
 
-module _ {A K V : Type 0} (s : SurjectState A K V) where
+module _ {A B K V : Type 0} (s : SurjectState A B K V) where
   -- a pointer that finds something isn't told to find nothing
   pub never : {R E : Type 0} (p : Pointer) (r : Result R E) (e : E) → IsSome (found_at s p) → (r ≡ Err e → ⊥) → (r ≡ Err e) ↔ (found_at s p ≡ None)
   never p r e some other = (λ is. absurd (other is), λ none. absurd (none_there (found_at s p) none some))
@@ -45,15 +45,15 @@ read_same numbers None (Some n) e = absurd (cc)
 read_same numbers (Some o) None e = absurd (cc)
 read_same {P = P} {K = K} numbers (Some o) (Some n) e = let same : n.value ≡ o.value = cc in ap (λ (m : Member P K). Some (m.key, numbers m.set)) same
 
-module _ {A P K V : Type 0} (numbers : P → Pointer) where
+module _ {A B P K V : Type 0} (numbers : P → Pointer) where
   -- what is found are the keys of these nodes, and what sets have, the values of these slots
-  pub record IsRead (found : Pointer → Option (Node (Member P K))) (slots : List (Option (ℕ × Shared V))) (s : SurjectState A K V) : Type 0 where
+  pub record IsRead (found : Pointer → Option (Node (Member P K))) (slots : List (Option (ℕ × Shared V))) (s : SurjectState A B K V) : Type 0 where
     pub keys : (p : Pointer) → found_at s p ≡ option_map (key_of numbers) (found p)
     pub vals : (c : Pointer) → named s c ≡ option_map value_of (look_up slots c)
 
-  pub read : (chains : ChainState A (Member P K)) (slots : List (Option (ℕ × Shared V))) (capacity : ℕ) (limit : Option ℕ) (s : SurjectState A K V) → state_of numbers chains slots capacity limit ≡ s
+  pub read : (sets : B) (chains : ChainState A (Member P K)) (slots : List (Option (ℕ × Shared V))) (capacity : ℕ) (limit : Option ℕ) (s : SurjectState A B K V) → state_of numbers sets chains slots capacity limit ≡ s
       → IsRead (nodes chains) slots s
-  read chains slots capacity limit s is = subst (IsRead (nodes chains) slots) is (record { keys = found_mapped (key_of numbers) chains.slots; vals = found_mapped value_of slots })
+  read sets chains slots capacity limit s is = subst (IsRead (nodes chains) slots) is (record { keys = found_mapped (key_of numbers) chains.slots; vals = found_mapped value_of slots })
 
 -- the set of a key is there
 pub shared_there : {P K V : Type 0} {numbers : P → Pointer} {found : Pointer → Option (Node (Member P K))} (slots : List (Option (ℕ × Shared V))) → IsSound numbers found (counts slots) → (p c : Pointer) → label numbers found p ≡ Some c
@@ -64,7 +64,7 @@ pub no_share : {P K V : Type 0} {numbers : P → Pointer} {found : Pointer → O
     → look_up slots c ≡ None → ⊥
 no_share slots sound p c of none = none_there (look_up slots c) none (shared_there slots sound p c of)
 
-module _ {A P K V : Type 0} {numbers : P → Pointer} {found : Pointer → Option (Node (Member P K))} {slots : List (Option (ℕ × Shared V))} {s : SurjectState A K V} (is : IsRead numbers found slots s) where
+module _ {A B P K V : Type 0} {numbers : P → Pointer} {found : Pointer → Option (Node (Member P K))} {slots : List (Option (ℕ × Shared V))} {s : SurjectState A B K V} (is : IsRead numbers found slots s) where
   pub there_is : (p : Pointer) → is_some (found p) ≡ is_some (found_at s p)
   there_is p = by_node (found p) ∙ sym (ap is_some (is.keys p))
     where

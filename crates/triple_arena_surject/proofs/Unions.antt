@@ -15,14 +15,14 @@ use Rattle.triple_arena_surject.proofs.Options.{some_there, none_there}
 twice_more : (a j : ℕ) → a * 2 ^ (j + 1) ≡ (a + a) * 2 ^ j
 twice_more a j = rw (add-one, pow-suc) (omega arith)
 
-module _ {A K V : Type 0} where
-  pub turned : (s : SurjectState A K V) (p q : Pointer) → AreTogether s p q → AreTogether s q p
+module _ {A B K V : Type 0} where
+  pub turned : (s : SurjectState A B K V) (p q : Pointer) → AreTogether s p q → AreTogether s q p
   turned s p q is = (subst IsSome is.1 is.0, sym is.1)
 
-  pub through : (s : SurjectState A K V) (p q r : Pointer) → AreTogether s p q → AreTogether s q r → AreTogether s p r
+  pub through : (s : SurjectState A B K V) (p q r : Pointer) → AreTogether s p q → AreTogether s q r → AreTogether s p r
   through s p q r is also = (is.0, is.1 ∙ also.1)
 
-  pub together_cases : (s : SurjectState A K V) (p q : Pointer) → AreTogether s p q ⊎ (AreTogether s p q → ⊥)
+  pub together_cases : (s : SurjectState A B K V) (p q : Pointer) → AreTogether s p q ⊎ (AreTogether s p q → ⊥)
   together_cases s p q = by_name (set_at s p) refl
     where
       by_name : (o : Option Pointer) → set_at s p ≡ o → AreTogether s p q ⊎ (AreTogether s p q → ⊥)
@@ -34,12 +34,12 @@ module _ {A K V : Type 0} where
           ]
 
   -- a set is no larger than one that has each of its keys
-  pub as_many : (s t : SurjectState A K V) (p q : Pointer) (n m : ℕ) → HasKeys s p n → HasKeys t q m → ((r : Pointer) → AreTogether s p r → AreTogether t q r) → n ≤ m
+  pub as_many : (s t : SurjectState A B K V) (p q : Pointer) (n m : ℕ) → HasKeys s p n → HasKeys t q m → ((r : Pointer) → AreTogether s p r → AreTogether t q r) → n ≤ m
   as_many s t p q n m one other among =
       let few = no_more one.all other.all one.are.once (λ r within. (other.are.among r).0 (among r ((one.are.among r).1 within))) in
       omega (arith, few, one.size, other.size)
 
-  module _ (s : SurjectState A K V) (kept gone : Pointer) (t : SurjectState A K V) (done : IsUnited s kept gone t) (n m : ℕ) (ours : HasKeys s kept n) (theirs : HasKeys s gone m) where
+  module _ (s : SurjectState A B K V) (kept gone : Pointer) (t : SurjectState A B K V) (done : IsUnited s kept gone t) (n m : ℕ) (ours : HasKeys s kept n) (theirs : HasKeys s gone m) where
     abbrev both : List Pointer
     both = ours.all ++ theirs.all
 
@@ -121,13 +121,13 @@ module _ {A K V : Type 0} where
         let after = sized r a has in
         (after.0, after.1, as_many s t r r a after.0 has after.1 (λ x is. (done.joined r x).1 (inl is)), λ renamed. twice less r a after.0 renamed has after.1)
 
-  union_twice : (s t : SurjectState A K V) (p q : Pointer) (gives : Option V) → IsUnion s p q gives t → (r : Pointer) (a : ℕ) → HasKeys s r a
+  union_twice : (s t : SurjectState A B K V) (p q : Pointer) (gives : Option V) → IsUnion s p q gives t → (r : Pointer) (a : ℕ) → HasKeys s r a
       → (b : ℕ) × HasKeys t r b × (a ≤ b) × (set_at t r ≢ set_at s r → a + a ≤ b)
   union_twice s t p q gives (inl is) r a has = grown s p q t is.2 is.0.0 is.0.1 is.0.2 is.0.3 is.0.4 r a has
   union_twice s t p q gives (inr is) r a has = grown s q p t is.2 is.0.0 is.0.1 is.0.2 is.0.3 (omega (arith, is.0.4)) r a has
 
   -- over unions the set of a key is doubled at least as often as it gets another name
-  pub doubled : (s : SurjectState A K V) (ts : List (SurjectState A K V)) (r : Pointer) (k a b : ℕ) → AreUnions s ts → IsRenamedOften s ts r k → HasKeys s r a → HasKeys (last_of s ts) r b → a * 2 ^ k ≤ b
+  pub doubled : (s : SurjectState A B K V) (ts : List (SurjectState A B K V)) (r : Pointer) (k a b : ℕ) → AreUnions s ts → IsRenamedOften s ts r k → HasKeys s r a → HasKeys (last_of s ts) r b → a * 2 ^ k ≤ b
   doubled s [] r k a b made often has also =
       let same : a ≤ b = as_many s s r r a b has also (λ x is. is) in
       subst (λ n. a * 2 ^ n ≤ b) (sym often) (omega (arith, same))

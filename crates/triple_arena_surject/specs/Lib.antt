@@ -1,5 +1,6 @@
--- Read first: Surject.
+-- Read first: Surject and Room.
 pub mod Surject
+pub mod Room
 pub mod Unions
 pub mod Compaction
 pub mod Rings

@@ -1,5 +1,5 @@
 -- What always holds of the keys: those of a set stand in one ring of a chain, and the set's value counts them.
-use Rattle.std.specs.Prelude.{◌≡◌, ◌≢◌, ◌↔◌, ℕ, ◌+◌, List, ◌∷◌, length, Option, None, Some, IsSome, Contains}
+use Rattle.std.specs.Prelude.{◌≡◌, ◌≢◌, ◌↔◌, ℕ, zero, suc, ◌+◌, List, [], ◌∷◌, length, Option, None, Some, IsSome, Contains}
 use Rattle.std.specs.Option.{option_map}
 use Rattle.triple_arena_ptr.specs.Pointers.{Pointer}
 use Rattle.triple_arena.specs.Entries.{look_up}
@@ -10,6 +10,12 @@ use Rattle.triple_arena_surject.specs.declared.member.Shared.{Shared}
 -- how many keys each set has, by its name
 abbrev pub counts : {V : Type 0} → List (Option (ℕ × Shared V)) → Pointer → Option ℕ
 counts slots c = option_map (λ shared. shared.keys) (look_up slots c)
+
+-- at most so many pointers, from one on, each by what leads on from the one before it
+abbrev pub along : {T : Type 0} → (Pointer → Option (Node T)) → ℕ → (next : Option Pointer) → List Pointer
+along nodes zero next = []
+along nodes (suc n) None = []
+along nodes (suc n) (Some p) = p ∷ along nodes n (after_at nodes p)
 
 module _ {P K : Type 0} (numbers : P → Pointer) where
   -- the name of the set of a pointer

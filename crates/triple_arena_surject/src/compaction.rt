@@ -3,7 +3,7 @@
 ghost use Rattle.std.specs.Prelude.{◌≡◌, ◌<◌, false, IfOk, OnOk, OnErr};
 ghost use Rattle.std.specs.Result.{IfErr};
 ghost use Rattle.triple_arena_recasting.specs.Compacted.{TellsMap};
-ghost use Rattle.triple_arena_surject.specs.Surject.{KeepsSize};
+ghost use Rattle.triple_arena_surject.specs.Room.{KeepsSize};
 ghost use Rattle.triple_arena_surject.specs.Compaction.{KeepsSets};
 
 use crate::member::{Member, Shared};
@@ -23,8 +23,8 @@ impl<
     A: CompactArenaTrait<P, Link<P, Member<P, K>>> + ArenaInsertTrait<P, Link<P, Member<P, K>>>,
     B: ArenaInsertTrait<P, Shared<V>>,
 > SurjectArena<P, K, V, A, B> {
-    /// Compresses the arena of keys: each key has a new pointer in the set that it was in, and no index is above the
-    /// number of keys (`KeepsSets`). Values stay where they are. The map tells the new pointers, and the answer a wrap
+    /// Compresses the arena of keys: each key has a new pointer in the set that it was in, the entries keep their
+    /// order, and no index is above the number of keys (`KeepsSets`). Values stay where they are. The map tells the new pointers, and the answer a wrap
     /// exactly where the compression wraps the counter of that arena (`TellsMap`). Generations don't begin anew: where
     /// the counter doesn't wrap, no pointer that was given before finds anything (`history`).
     ///

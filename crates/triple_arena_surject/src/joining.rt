@@ -1,10 +1,9 @@
 //! Two sets made one.
 
-ghost use Rattle.std.specs.Prelude.{◌≡◌, ◌≢◌, ◌≤◌, ◌↔◌, ◌⊎◌, ◌+◌, ℕ, [], None, Some, Ok, Err, IsSome, IfOk, OnOk, OnErr};
-ghost use Rattle.std.specs.Result.{IfErr};
-ghost use Rattle.triple_arena_ptr.specs.Pointers.{Pointer};
+ghost use Rattle.std.specs.Prelude.{◌≡◌, ◌↔◌, ◌⊎◌, [], None, Some, Ok, IsSome, IfOk, OnOk, OnErr};
 ghost use Rattle.triple_arena.specs.Histories.{Continues};
-ghost use Rattle.triple_arena_surject.specs.Surject.{found_at, key_at, set_at, val_at, AreTogether, AreOfBoth, HasKeys, IsUnited, IsUnion, HasSameRoom, HasOneLess};
+ghost use Rattle.triple_arena_surject.specs.Surject.{found_at, val_at, AreTogether, IsUnited, KeepsTogether, IsRefusedWhere};
+ghost use Rattle.triple_arena_surject.specs.Room.{MakesOne, KeepsKeys, HasOneLess};
 
 use crate::member::{Member, Shared};
 use crate::refusal::SurjectError;
@@ -30,10 +29,8 @@ impl<
     pub fn union(&mut self, p: P, q: P) -> Result<Option<V>, SurjectError>
         // Done: where they were two sets, they are one, and the value of the set that goes comes back.
         ensures united { IfOk result (λ gives. IsSome gives
-            → IsUnion self.old (P.numbers p) (P.numbers q) gives self.new) }
+            → MakesOne self.old (P.numbers p) (P.numbers q) gives self.new) }
         ensures together { OnOk result (AreTogether self.new (P.numbers p) (P.numbers q)) }
-        ensures len_vals { IfOk result (λ gives. IsSome gives
-            → self.new.len_vals + 1 ≡ self.old.len_vals) }
 
         // Where they were one set, nothing comes back, and nothing has changed.
         ensures one { (result ≡ Ok None) ↔ AreTogether self.old (P.numbers p) (P.numbers q) }
@@ -41,23 +38,13 @@ impl<
 
         // Refused: nothing has changed, and one of the pointers found nothing.
         ensures refused { OnErr result (self.new ≡ self.old) }
-        ensures no_entry { (result ≡ Err SurjectError.NoEntry)
-            ↔ ((found_at self.old (P.numbers p) ≡ None) ⊎ (found_at self.old (P.numbers q) ≡ None)) }
-        ensures refusal { IfErr result (λ refusal. refusal ≡ SurjectError.NoEntry) }
+        ensures no_entry { IsRefusedWhere ((found_at self.old (P.numbers p) ≡ None)
+            ⊎ (found_at self.old (P.numbers q) ≡ None)) result }
 
-        // In each case those that were together are, and no others but by this union. Each key stays under its pointer, and
-        // one whose set has another name is of a set at least twice as large.
-        ensures stays { (r t : Pointer) → AreTogether self.old r t → AreTogether self.new r t }
-        ensures joined { (r t : Pointer) → AreTogether self.new r t
-            → AreTogether self.old r t ⊎ AreOfBoth self.old (P.numbers p) (P.numbers q) r t }
-        ensures keys { (r : Pointer) → key_at self.new r ≡ key_at self.old r }
-        ensures doubles { (r : Pointer) (n m : ℕ) → set_at self.new r ≢ set_at self.old r
-            → HasKeys self.old r n → HasKeys self.new r m → n + n ≤ m }
-
-        // There are as many keys and as much room, and a history goes on as it is.
-        ensures len_keys { self.new.len_keys ≡ self.old.len_keys }
-        ensures room { HasSameRoom self.old self.new }
-        ensures history { Continues A.fits self.old.arena [] self.new.arena }
+        // In each case those that were together are, and no others but by this union; there are as many keys under the same
+        // pointers, and as much room.
+        ensures sets { KeepsTogether self.old (P.numbers p) (P.numbers q) self.new }
+        ensures size { KeepsKeys A.fits self.old self.new }
     {
         let Some(first) = self.len_key_set(p) else {
             return Err(SurjectError::NoEntry);

@@ -12,9 +12,10 @@ mod removing;
 mod steps;
 pub mod surject;
 mod valuing;
-mod walking;
+pub mod walking;
 
 pub use member::{Member, Shared};
 pub use refusal::SurjectError;
 pub use surject::SurjectArena;
 pub use triple_arena_direct_arena::DirectArena;
+pub use walking::SetPtrs;

@@ -1,13 +1,13 @@
 //! Keys that go, and whole sets.
 
-ghost use Rattle.std.specs.Prelude.{◌≡◌, ◌≢◌, ◌↔◌, ◌+◌, ℕ, not, List, [], ◌∷◌, map, None, Some, Err, IsSome, IfOk, OnOk, OnErr, MatchOption};
-ghost use Rattle.std.specs.Result.{IfErr};
+ghost use Rattle.std.specs.Prelude.{◌≡◌, not, [], ◌∷◌, None, Some, IfOk, OnOk, OnErr};
 ghost use Rattle.triple_arena_base.specs.Invalidation.{allowed_option, is_success_option};
-ghost use Rattle.triple_arena_ptr.specs.Pointers.{Pointer};
 ghost use Rattle.triple_arena.specs.Ending.{told};
-ghost use Rattle.triple_arena.specs.Histories.{removal, CountsUp, Continues};
-ghost use Rattle.triple_arena_chain.specs.Endings.{EndsAt, EndInTurn};
-ghost use Rattle.triple_arena_surject.specs.Surject.{found_at, key_at, val_at, AreTogether, HasKeys, HasSameRoom, IsKeyRemoved, IsSetRemoved};
+ghost use Rattle.triple_arena.specs.Histories.{clearing, CountsUp, Continues};
+ghost use Rattle.triple_arena.specs.Walks.{keys};
+ghost use Rattle.triple_arena_chain.specs.Endings.{EndsEntry, EndsEntries};
+ghost use Rattle.triple_arena_surject.specs.Surject.{found_at, val_at, TellsKey, IsKeyRemoved, IsSetRemoved, IsRefusedWhere};
+ghost use Rattle.triple_arena_surject.specs.Room.{AreNoSets, HasSameRoom, HasKeyLess, HasSetLess};
 
 use crate::member::{Member, Shared};
 use crate::refusal::SurjectError;
@@ -33,30 +33,17 @@ impl<
     pub fn remove_key(&mut self, p: P) -> Result<InvalidationOption<(K, Option<V>)>, SurjectError>
         // Done: the key is gone, and comes back, told with a wrap if there was one; with it the value of its set, if it was
         // the last one there.
-        ensures key { IfOk result (λ answer.
-            key_at self.old (P.numbers p) ≡ Some (allowed_option answer).0) }
-        ensures value { IfOk result (λ answer. IsSome (allowed_option answer).1
-            → ((allowed_option answer).1 ≡ val_at self.old (P.numbers p))
-            × ((q : Pointer) → AreTogether self.old (P.numbers p) q → q ≡ P.numbers p)) }
-        ensures none { IfOk result (λ answer. (allowed_option answer).1 ≡ None
-            → (q : Pointer) × (q ≢ P.numbers p) × AreTogether self.old (P.numbers p) q) }
-        ensures answer { IfOk result (λ answer. answer
-            ≡ told (A.ending_wraps self.old.arena) (allowed_option answer)) }
+        ensures answer { IfOk result
+            (TellsKey (A.ending_wraps self.old.arena) self.old (P.numbers p)) }
         ensures removed { OnOk result (IsKeyRemoved self.old (P.numbers p) self.new) }
-        ensures ended { OnOk result
-            (EndsAt A.removes A.with_value self.old.arena (P.numbers p).0 self.new.arena) }
-        ensures len_keys { OnOk result (self.new.len_keys + 1 ≡ self.old.len_keys) }
-        ensures len_vals { IfOk result (λ answer. MatchOption (allowed_option answer).1
-            (self.new.len_vals ≡ self.old.len_vals)
-            (λ _. self.new.len_vals + 1 ≡ self.old.len_vals)) }
-        ensures history { OnOk result (CountsUp P.Gen.generations (A.ending_wraps self.old.arena)
-            → Continues A.fits self.old.arena (removal (P.numbers p) ∷ []) self.new.arena) }
+        ensures ended { OnOk result (EndsEntry A.removes A.with_value A.fits P.Gen.generations
+            (A.ending_wraps self.old.arena) self.old.arena (P.numbers p) self.new.arena) }
+        ensures size { IfOk result
+            (λ answer. HasKeyLess (allowed_option answer).1 self.old self.new) }
 
         // Refused: nothing has changed, and the pointer found nothing.
         ensures refused { OnErr result (self.new ≡ self.old) }
-        ensures no_entry { (result ≡ Err SurjectError.NoEntry)
-            ↔ (found_at self.old (P.numbers p) ≡ None) }
-        ensures refusal { IfErr result (λ refusal. refusal ≡ SurjectError.NoEntry) }
+        ensures no_entry { IsRefusedWhere (found_at self.old (P.numbers p) ≡ None) result }
 
         // In each case the room stays.
         ensures room { HasSameRoom self.old self.new }
@@ -76,29 +63,22 @@ impl<
     /// Takes a whole set out, and gives its value; its keys are dropped.
     ///
     /// `NoEntry` exactly where the pointer finds nothing; then nothing changes. `GenerationOverflow` exactly where one
-    /// of the removals from the arena of keys wraps its counter (`wrap`). A wrap in the arena of values isn't told.
+    /// of the removals from the arena of keys wraps its counter (`ended`). A wrap in the arena of values isn't told.
     pub fn remove(&mut self, p: P) -> Result<InvalidationOption<V>, SurjectError>
     where
         K: Drop,
         // Done: the set is gone with all its keys, and its value comes back, told with a wrap if there was one.
         ensures value { IfOk result (λ answer.
             val_at self.old (P.numbers p) ≡ Some (allowed_option answer)) }
-        ensures wrap { IfOk result (λ answer. (gone : List Pointer)
-            × EndInTurn A.removes A.with_value A.ending_wraps self.old.arena gone
-            (not (is_success_option answer)) self.new.arena) }
         ensures removed { OnOk result (IsSetRemoved self.old (P.numbers p) self.new) }
-        ensures len_keys { OnOk result ((n : ℕ) → HasKeys self.old (P.numbers p) n
-            → self.new.len_keys + n ≡ self.old.len_keys) }
-        ensures len_vals { OnOk result (self.new.len_vals + 1 ≡ self.old.len_vals) }
-        ensures history { IfOk result (λ answer.
-            CountsUp P.Gen.generations (not (is_success_option answer)) → (gone : List Pointer)
-            × Continues A.fits self.old.arena (map removal gone) self.new.arena) }
+        ensures ended { IfOk result (λ answer.
+            EndsEntries A.removes A.with_value A.fits P.Gen.generations A.ending_wraps
+            self.old.arena (not (is_success_option answer)) self.new.arena) }
+        ensures size { OnOk result (HasSetLess self.old (P.numbers p) self.new) }
 
         // Refused: nothing has changed, and the pointer found nothing.
         ensures refused { OnErr result (self.new ≡ self.old) }
-        ensures no_entry { (result ≡ Err SurjectError.NoEntry)
-            ↔ (found_at self.old (P.numbers p) ≡ None) }
-        ensures refusal { IfErr result (λ refusal. refusal ≡ SurjectError.NoEntry) }
+        ensures no_entry { IsRefusedWhere (found_at self.old (P.numbers p) ≡ None) result }
 
         // In each case the room stays.
         ensures room { HasSameRoom self.old self.new }
@@ -116,5 +96,23 @@ impl<
         // Keys are counted.
         let _left = self.keys.len();
         Ok(telling(wrapped, out.value))
+    }
+
+    /// Takes out every key and every set; keys and values are dropped. `GenerationOverflow` exactly where clearing
+    /// the arena of keys wraps its counter (`answer`). A wrap in the arena of values isn't told.
+    pub fn clear(&mut self) -> InvalidationOption<()>
+    where
+        K: Drop,
+        V: Drop,
+        ensures answer { result ≡ told (A.clearing_wraps self.old.arena) tt }
+        ensures empty { AreNoSets self.old.key_capacity self.old.key_limit
+            self.old.val_capacity self.old.val_limit self.new }
+        ensures cleared { A.clears self.old.arena self.new.arena }
+        ensures history { CountsUp P.Gen.generations (A.clearing_wraps self.old.arena)
+            → Continues A.fits self.old.arena (clearing (keys (A.slots self.old.arena)) ∷ [])
+            self.new.arena }
+    {
+        drop(self.sets.clear());
+        self.keys.clear()
     }
 }

@@ -10,7 +10,8 @@ ghost use Rattle.triple_arena_stack.specs.Capacity.{IsFullAtLimit, CanGrow};
 ghost use Rattle.triple_arena.specs.Ending.{told};
 ghost use Rattle.triple_arena.specs.Entries.{look_up, entry_count};
 ghost use Rattle.triple_arena.specs.Histories.{insertion, Continues};
-ghost use Rattle.triple_arena_chain.specs.Chains.{nodes, value_at, after_at, before_at, IsCut, IsJoined, IsRefusedRoom};
+ghost use Rattle.triple_arena_chain.specs.Chains.{nodes, value_at, after_at, before_at, IsCut, IsJoined, KeepsSize};
+ghost use Rattle.triple_arena_chain.specs.Room.{HasOneMore, DependsOnRoom};
 ghost use Rattle.triple_arena_surject.specs.Rings.{counts, label, with_set, with_keys, CountsLess, IsRound, IsRingOfOne, IsSpliced};
 
 use crate::member::{Member, Shared};
@@ -82,6 +83,7 @@ pub(crate) fn put<P: Ptr, V: Drop, B: ArenaInsertTrait<P, Shared<V>>>(
         (entry_count (B.slots sets.new) ≡ entry_count (B.slots sets.old) + 1) }
     ensures capacity { OnOk result (B.capacity sets.old ≤ B.capacity sets.new) }
     ensures limit { OnOk result (B.limit sets.new ≡ B.limit sets.old) }
+    ensures grown { OnOk result (B.capacity sets.new ≡ B.capacity (B.grown sets.old)) }
     ensures with_memory { CanGrow B.has_memory (B.capacity sets.old) (B.limit sets.old)
         (greatest_index P.Inx.greatest) → IsOk result }
     ensures had_place { entry_count (B.slots sets.old) < B.capacity sets.old
@@ -206,9 +208,7 @@ pub(crate) fn join<
     requires open_before { before_at (nodes keys.old) (P.numbers first) ≡ None }
     ensures joined { IsJoined (nodes keys.old)
         (P.numbers last) (P.numbers first) (nodes keys.new) }
-    ensures len { keys.new.len ≡ keys.old.len }
-    ensures capacity { keys.new.capacity ≡ keys.old.capacity }
-    ensures limit { keys.new.limit ≡ keys.old.limit }
+    ensures size { KeepsSize keys.old keys.new }
     ensures history { Continues A.fits keys.old.arena [] keys.new.arena }
 {
     let _joined = keys.join(last, first);
@@ -222,17 +222,9 @@ pub(crate) fn put_alone<
 >(keys: &mut Chains<P, Member<P, K>, A>, member: Member<P, K>) -> Result<P, ChainError>
     ensures alone { IfOk result
         (λ q. IsRingOfOne (nodes keys.old) (P.numbers q) member (nodes keys.new)) }
-    ensures len { OnOk result (keys.new.len ≡ keys.old.len + 1) }
-    ensures capacity { OnOk result (keys.old.capacity ≤ keys.new.capacity) }
-    ensures limit { OnOk result (keys.new.limit ≡ keys.old.limit) }
+    ensures size { OnOk result (HasOneMore A.capacity A.grown keys.old keys.new) }
     ensures refused { OnErr result (keys.new ≡ keys.old) }
-    ensures refusal { IfErr result IsRefusedRoom }
-    ensures no_room { (result ≡ Err ChainError.NoRoom)
-        ↔ IsFullAtLimit keys.old.capacity keys.old.limit keys.old.len }
-    ensures with_memory { CanGrow A.has_memory keys.old.capacity keys.old.limit
-        (greatest_index P.Inx.greatest) → IsOk result }
-    ensures had_place { keys.old.len < keys.old.capacity
-        → IsOk result × (keys.new.capacity ≡ keys.old.capacity) }
+    ensures room { DependsOnRoom A.has_memory (greatest_index P.Inx.greatest) keys.old result }
     ensures history { IfOk result
         (λ p. Continues A.fits keys.old.arena (insertion (P.numbers p) ∷ []) keys.new.arena) }
 {

@@ -1,19 +1,20 @@
 //! Sets of keys over any compact arena, and their values over any arena.
 
-ghost use Rattle.std.specs.Prelude.{◌≡◌, ◌≢◌, ◌≤◌, ◌↔◌, None, Some, is_some, IsSome, IfSome, MatchOption, true, option_copied, min};
-ghost use Rattle.std.specs.Option.{option_map};
-ghost use Rattle.triple_arena_ptr.specs.Pointers.{Pointer};
+ghost use Rattle.std.specs.Prelude.{◌≡◌, ◌≤◌, ◌↔◌, ◌==◌, None, is_some, IsSome, IfSome, IsOk, IfOk, OnOk, MatchOption, true, option_copied, min};
+ghost use Rattle.std.specs.Result.{IfErr};
 ghost use Rattle.triple_arena_ptr.specs.Numbers.{greatest_index};
 ghost use Rattle.triple_arena_stack.specs.Capacity.{stack_capacity};
-ghost use Rattle.triple_arena_stack.specs.StackKind.{new_room, new_limit};
+ghost use Rattle.triple_arena_stack.specs.StackKind.{new_room, new_limit, made_room, made_limit, CanHold};
+ghost use Rattle.triple_arena.specs.Entries.{entry_count};
 ghost use Rattle.triple_arena.specs.Histories.{History, remains};
-ghost use Rattle.triple_arena_surject.specs.Surject.{found_at, key_at, set_at, val_at, AreTogether, HasKeys, EachHasOther};
+ghost use Rattle.triple_arena_surject.specs.Surject.{found_at, key_at, val_at, AreTogether, HasKeys, EachHasOther};
+ghost use Rattle.triple_arena_surject.specs.Room.{AreNoSets};
 
 use crate::member::{Member, Shared};
 use crate::steps::{are_same, set_of};
 use std::alloc::Global;
 use std::marker::{Model, PhantomData};
-use triple_arena::{ArenaInsertTrait, ArenaTrait, CompactArenaTrait};
+use triple_arena::{AllocError, Arena, ArenaInsertTrait, ArenaTrait, CompactArenaTrait};
 use triple_arena_chain::{Chains, Link};
 use triple_arena_ptr::{Ptr, PtrInx};
 
@@ -27,8 +28,9 @@ pub struct SurjectArena<
     P: Ptr,
     K,
     V,
-    A: CompactArenaTrait<P, Link<P, Member<P, K>>> + ArenaInsertTrait<P, Link<P, Member<P, K>>>,
-    B: ArenaInsertTrait<P, Shared<V>>,
+    A: CompactArenaTrait<P, Link<P, Member<P, K>>>
+        + ArenaInsertTrait<P, Link<P, Member<P, K>>> = Arena<P, Link<P, Member<P, K>>>,
+    B: ArenaInsertTrait<P, Shared<V>> = Arena<P, Shared<V>>,
 > {
     pub(crate) keys: Chains<P, Member<P, K>, A>,
     pub(crate) sets: B,
@@ -47,9 +49,9 @@ impl<
     ghost use Rattle.triple_arena_surject.specs.Surject.{SurjectState, state_of};
     ghost use Rattle.triple_arena_surject.specs.Rings.{counts, IsSound};
 
-    ghost Value = { SurjectState A K V };
+    ghost Value = { SurjectState A B K V };
 
-    ghost view = { λ s. state_of P.numbers s.keys
+    ghost view = { λ s. state_of P.numbers s.sets s.keys
         (B.slots s.sets) (B.capacity s.sets) (B.limit s.sets) };
 
     ghost invariant = { λ s. IsSound P.numbers (nodes s.keys) (counts (B.slots s.sets)) };
@@ -62,26 +64,81 @@ impl<
     A: CompactArenaTrait<P, Link<P, Member<P, K>>> + ArenaInsertTrait<P, Link<P, Member<P, K>>>,
     B: ArenaInsertTrait<P, Shared<V>>,
 > SurjectArena<P, K, V, A, B> {
-    /// No sets, with room and limit of a new stack for keys and for values. It takes no memory.
+    /// No sets in new arenas, with room and limit of a new stack for keys and for values. It takes no memory.
     pub fn new(alloc: Global) -> Self
-        // The arena of keys is a new one, and there are no keys and no sets.
         ensures arena { result.arena ≡ A.empty (new_room A.kind) (new_limit A.kind) }
-        ensures none { (q : Pointer) → found_at result q ≡ None }
-        ensures len_keys { result.len_keys ≡ 0 }
-        ensures len_vals { result.len_vals ≡ 0 }
-
-        // There is the room of new stacks.
-        ensures key_capacity { result.key_capacity ≡ min (stack_capacity (new_room A.kind)
-            (new_limit A.kind)) (greatest_index P.Inx.greatest) }
-        ensures key_limit { result.key_limit ≡ new_limit A.kind }
-        ensures val_capacity { result.val_capacity ≡ min (stack_capacity (new_room B.kind)
-            (new_limit B.kind)) (greatest_index P.Inx.greatest) }
-        ensures val_limit { result.val_limit ≡ new_limit B.kind }
+        ensures val_arena { result.val_arena ≡ B.empty (new_room B.kind) (new_limit B.kind) }
+        ensures empty { AreNoSets
+            (min (stack_capacity (new_room A.kind) (new_limit A.kind)) (greatest_index P.Inx.greatest))
+            (new_limit A.kind)
+            (min (stack_capacity (new_room B.kind) (new_limit B.kind)) (greatest_index P.Inx.greatest))
+            (new_limit B.kind) result }
     {
         SurjectArena {
             keys: Chains::new(alloc),
             sets: B::new(alloc),
             of: PhantomData,
+        }
+    }
+
+    /// No sets in new arenas, with room for so many keys and so many sets.
+    ///
+    /// Refused where the constructor with room of one of the arenas is: past the greatest index, where its stack can't
+    /// hold so many, and where memory is refused, which it isn't where it is there.
+    pub fn with_min_capacity(alloc: Global, keys: usize, values: usize) -> Result<Self, AllocError>
+    where
+        A: Drop,
+        // Done: there is room for so many.
+        ensures arenas { IfOk result (λ sets.
+            (sets.arena ≡ A.empty (made_room A.kind keys) (made_limit A.kind keys))
+            × (sets.val_arena ≡ B.empty (made_room B.kind values) (made_limit B.kind values))) }
+        ensures empty { IfOk result (AreNoSets
+            (min (stack_capacity (made_room A.kind keys) (made_limit A.kind keys))
+            (greatest_index P.Inx.greatest)) (made_limit A.kind keys)
+            (min (stack_capacity (made_room B.kind values) (made_limit B.kind values))
+            (greatest_index P.Inx.greatest)) (made_limit B.kind values)) }
+        ensures holds { OnOk result ((keys ≤ greatest_index P.Inx.greatest)
+            × CanHold A.kind keys
+            × (values ≤ greatest_index P.Inx.greatest) × CanHold B.kind values) }
+
+        // It isn't refused where memory is there.
+        ensures with_memory { keys ≤ greatest_index P.Inx.greatest
+            → values ≤ greatest_index P.Inx.greatest
+            → CanHold A.kind keys → CanHold B.kind values
+            → A.has_memory keys → B.has_memory values → IsOk result }
+    {
+        let keys = Chains::with_min_capacity(alloc, keys)?;
+        let sets = B::with_min_capacity(alloc, values)?;
+        Ok(SurjectArena {
+            keys,
+            sets,
+            of: PhantomData,
+        })
+    }
+
+    /// No sets in these arenas, of keys and of values, with their room, their limits and their counters. It takes no
+    /// memory.
+    ///
+    /// Refused exactly where one of the arenas has an entry; then both come back.
+    pub fn over(keys: A, values: B) -> Result<Self, (A, B)>
+        ensures arenas { IfOk result
+            (λ sets. (sets.arena ≡ keys) × (sets.val_arena ≡ values)) }
+        ensures empty { IfOk result (AreNoSets
+            (A.capacity keys) (A.limit keys) (B.capacity values) (B.limit values)) }
+        ensures back { IfErr result (λ back. (back.0 ≡ keys) × (back.1 ≡ values)) }
+        ensures variant { IsOk result
+            ↔ ((entry_count (A.slots keys) ≡ 0) × (entry_count (B.slots values) ≡ 0)) }
+    {
+        if !values.is_empty() {
+            return Err((keys, values));
+        }
+        match Chains::over(keys) {
+            Ok(keys) => Ok(SurjectArena {
+                keys,
+                sets: values,
+                of: PhantomData,
+            }),
+            Err(keys) => Err((keys, values)),
         }
     }
 
@@ -91,6 +148,13 @@ impl<
         ensures fits { self.now.len_keys ≤ self.now.key_capacity }
     {
         self.keys.len()
+    }
+
+    /// Whether there is no key, and so no set.
+    pub fn is_empty(&self) -> bool
+        ensures { result ≡ (self.now.len_keys == 0) }
+    {
+        self.keys.is_empty()
     }
 
     /// How many sets there are, each with its value: never more than fit. Each key has a value, and each value a key.

@@ -1,10 +1,10 @@
 //! The value of a set, for writing.
 
 ghost use Rattle.std.specs.Borrow.{sem, LendsIf};
-ghost use Rattle.std.specs.Prelude.{◌≡◌, ◌↔◌, None, Some, Err, IsSome, IfOk, OnOk, OnErr};
+ghost use Rattle.std.specs.Prelude.{◌≡◌, ◌↔◌, None, Some, IsSome, IfOk, OnOk, OnErr};
 ghost use Rattle.std.specs.Option.{option_copied_mut};
-ghost use Rattle.std.specs.Result.{IfErr};
-ghost use Rattle.triple_arena_surject.specs.Surject.{found_at, set_at, val_at, with_val, IsValued, KeepsSize};
+ghost use Rattle.triple_arena_surject.specs.Surject.{found_at, set_at, val_at, put_val, with_val, IsValued, IsRefusedWhere};
+ghost use Rattle.triple_arena_surject.specs.Room.{KeepsSize};
 
 use crate::member::{Member, Shared};
 use crate::refusal::SurjectError;
@@ -28,10 +28,12 @@ impl<
         ensures value { option_copied_mut result ≡ val_at self.old (P.numbers p) }
         ensures some { IsSome result ↔ IsSome (found_at self.old (P.numbers p)) }
         ensures* writes_back { sem 𝓛 (LendsIf ⟦<SurjectArena<P, K, V, A, B> as LendingArena>⟧.arena_row
-            V.row self.entry result (with_val self.old (set_at self.old (P.numbers p))) self.old) }
+            V.row self.entry result (with_val (put_val B.slots B.with_value) self.old
+            (set_at self.old (P.numbers p))) self.old) }
         ensures written { IsSome (found_at self.old (P.numbers p)) → (value : V)
             → IsValued self.old (P.numbers p) value
-            (with_val self.old (set_at self.old (P.numbers p)) value) }
+            (with_val (put_val B.slots B.with_value) self.old (set_at self.old (P.numbers p))
+            value) }
     {
         let set = set_of(&self.keys, p)?;
         let shared = self.sets.get_mut(set)?;
@@ -50,9 +52,7 @@ impl<
 
         // Refused: nothing has changed, and the pointer found nothing.
         ensures refused { OnErr result (self.new ≡ self.old) }
-        ensures no_entry { (result ≡ Err SurjectError.NoEntry)
-            ↔ (found_at self.old (P.numbers p) ≡ None) }
-        ensures refusal { IfErr result (λ refusal. refusal ≡ SurjectError.NoEntry) }
+        ensures no_entry { IsRefusedWhere (found_at self.old (P.numbers p) ≡ None) result }
 
         // In each case there are as many keys and sets in the same arena, and as much room.
         ensures arena { self.new.arena ≡ self.old.arena }

@@ -29,8 +29,8 @@ returns-clause-map g c =
     let sets = c.self.inside.sets in
     let rename = g.A.CompactArenaTrait.rank keys.arena false in
     let map = c.in-Ok.ensures.map in
-    let was = read numbers keys (g.B.ArenaStates.slots sets) (g.B.ArenaStates.capacity sets) (g.B.ArenaStates.limit sets) _ refl in
-    let is = read numbers keys' (g.B.ArenaStates.slots sets) (g.B.ArenaStates.capacity sets) (g.B.ArenaStates.limit sets) _ refl in
+    let was = read numbers sets keys (g.B.ArenaStates.slots sets) (g.B.ArenaStates.capacity sets) (g.B.ArenaStates.limit sets) _ refl in
+    let is = read numbers sets keys' (g.B.ArenaStates.slots sets) (g.B.ArenaStates.capacity sets) (g.B.ArenaStates.limit sets) _ refl in
     rw (← c.self.view_is) (record {
       tells = map.tells;
       maps = maps_keys numbers keys keys' rename c.in-Ok.ensures.kept.moved c.len-before.ensures.counted c.len-after.ensures.counted c.compress.ensures.size.len was is numbers (allowed_option c.in-Ok.answer).slots map.maps;
@@ -44,10 +44,11 @@ returns-clause-kept g c =
     let sets = c.self.inside.sets in
     let rename = g.A.CompactArenaTrait.rank keys.arena false in
     let kept = c.in-Ok.ensures.kept in
-    let was = read numbers keys (g.B.ArenaStates.slots sets) (g.B.ArenaStates.capacity sets) (g.B.ArenaStates.limit sets) _ refl in
-    let is = read numbers keys' (g.B.ArenaStates.slots sets) (g.B.ArenaStates.capacity sets) (g.B.ArenaStates.limit sets) _ refl in
+    let was = read numbers sets keys (g.B.ArenaStates.slots sets) (g.B.ArenaStates.capacity sets) (g.B.ArenaStates.limit sets) _ refl in
+    let is = read numbers sets keys' (g.B.ArenaStates.slots sets) (g.B.ArenaStates.capacity sets) (g.B.ArenaStates.limit sets) _ refl in
     rw (← c.self.view_is) (record {
       renamed = renamed_state numbers keys keys' rename kept.moved c.len-before.ensures.counted c.len-after.ensures.counted c.compress.ensures.size.len was is;
+      ranked = kept.ranked;
       packed = λ p some. kept.packed p (some_of_map (key_of numbers) (nodes keys' p) (subst IsSome (is.keys p) some));
       history = kept.history;
       begun = kept.begun;

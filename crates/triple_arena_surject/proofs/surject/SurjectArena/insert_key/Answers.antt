@@ -31,7 +31,7 @@ overflow_add-count g c =
     let counted = c.size_of-count.ensures (shared_there (g.B.ArenaStates.slots c.self.inside.sets) c.self.invariant (g.P.Ptr.numbers c.args.p) name (sym c.in-Some.ensures)) in
     let few : c.size_of-count.result ≤ entry_count keys.slots = no_more_keys g.P.Ptr.numbers (nodes keys) c.len-len.ensures.linked name c.size_of-count.result keys.slots (λ q. refl)
     (c.self.invariant.rings name c.size_of-count.result counted) in
-    omega (arith, few, c.len-len.ensures.counted, c.in-Ok.ensures.len, c.len-more.ensures.value)
+    omega (arith, few, c.len-len.ensures.counted, c.in-Ok.ensures.size.len, c.len-more.ensures.value)
 
 pub invariant_of-self : goal.invariant_of-self
 invariant_of-self g c =
@@ -50,8 +50,8 @@ pub returns-in-Ok-clause-added : goal.returns-in-Ok-clause-added
 returns-in-Ok-clause-added g c =
     let numbers = g.P.Ptr.numbers in
     let sets = c.count_keys.new.sets in
-    added_key (read numbers c.self.inside.keys (g.B.ArenaStates.slots c.self.inside.sets) _ _ c.args.self.now c.self.view_is)
-    (read numbers c.insert.new.self (g.B.ArenaStates.slots sets) (g.B.ArenaStates.capacity sets) (g.B.ArenaStates.limit sets) _ refl)
+    added_key (read numbers _ c.self.inside.keys (g.B.ArenaStates.slots c.self.inside.sets) _ _ c.args.self.now c.self.view_is)
+    (read numbers _ c.insert.new.self (g.B.ArenaStates.slots sets) (g.B.ArenaStates.capacity sets) (g.B.ArenaStates.limit sets) _ refl)
     (numbers c.args.p) (numbers c.in-Ok.q) (record { key = c.args.key; set = c.in-Some.set }) (c.size_of-count.result + 1)
     c.in-Ok.ensures.inserted (sym c.in-Some.ensures) c.count_keys.ensures.there c.count_keys.ensures.others
 
@@ -60,13 +60,13 @@ returns-in-Ok-clause-history g c = subst (λ s. Continues g.A.ArenaStates.fits s
 
 pub returns-in-Ok-clause-no_entry : goal.returns-in-Ok-clause-no_entry
 returns-in-Ok-clause-no_entry g c =
-    let is = read g.P.Ptr.numbers c.self.inside.keys (g.B.ArenaStates.slots c.self.inside.sets) _ _ c.args.self.now c.self.view_is in
+    let is = read g.P.Ptr.numbers _ c.self.inside.keys (g.B.ArenaStates.slots c.self.inside.sets) _ _ c.args.self.now c.self.view_is in
     never c.args.self.now (g.P.Ptr.numbers c.args.p) _ _ (found_there is (g.P.Ptr.numbers c.args.p) (g.P.Ptr.numbers c.in-Some.set) (sym c.in-Some.ensures)) (λ e. absurd (cc))
 
 pub returns-in-Err-clause-no_entry : goal.returns-in-Err-clause-no_entry
 returns-in-Err-clause-no_entry g c =
     let p = g.P.Ptr.numbers c.args.p in
     let name = g.P.Ptr.numbers c.in-Some.set in
-    let is = read g.P.Ptr.numbers c.self.inside.keys (g.B.ArenaStates.slots c.self.inside.sets) _ _ c.args.self.now c.self.view_is in
-    let refused = c.in-Err.ensures.refusal (labelled_there g.P.Ptr.numbers (nodes c.self.inside.keys) p name (sym c.in-Some.ensures)) in
+    let is = read g.P.Ptr.numbers _ c.self.inside.keys (g.B.ArenaStates.slots c.self.inside.sets) _ _ c.args.self.now c.self.view_is in
+    let refused = (c.in-Err.ensures.room (labelled_there g.P.Ptr.numbers (nodes c.self.inside.keys) p name (sym c.in-Some.ensures))).refusal in
     never c.args.self.now p _ _ (found_there is p name (sym c.in-Some.ensures)) (λ e. told_room c.in-Err.refusal refused (sym c.told_of_chains.ensures ∙ (cc)))

@@ -16,15 +16,15 @@ ring-requires-clause-round g c κs within =
     let from = ring_from numbers (nodes c.self.inside.keys) c.len-len.ensures.linked name count (c.self.invariant.rings name count (c.size_of-count.ensures there)) p (sym c.in-Some.ensures) in
     (name, from.0, from.1)
 
-pub returns-in-Some : goal.returns-in-Some
-returns-in-Some g c =
+pub returns-in-Some-clause-keys : goal.returns-in-Some-clause-keys
+returns-in-Some-clause-keys g c =
     let p = g.P.Ptr.numbers c.args.p in
-    let read_is = read g.P.Ptr.numbers c.self.inside.keys (g.B.ArenaStates.slots c.self.inside.sets) _ _ _ c.self.view_is in
+    let read_is = read g.P.Ptr.numbers _ c.self.inside.keys (g.B.ArenaStates.slots c.self.inside.sets) _ _ _ c.self.view_is in
     if_ok_1 _ _ c.ring.result c.ring.ensures
     (λ all is. subst (AreKeys c.args.self.now p) (sym is.3) (are_keys read_is c.len-len.ensures.linked p is.0 c.size_of-count.result is.1 is.2))
 
-pub returns-in-None : goal.returns-in-None
-returns-in-None g c =
+pub returns-in-None-clause-keys : goal.returns-in-None-clause-keys
+returns-in-None-clause-keys g c =
     let p = g.P.Ptr.numbers c.args.p in
     rw c.new.ensures.items
-    (no_keys c.args.self.now p (set_is (read g.P.Ptr.numbers c.self.inside.keys (g.B.ArenaStates.slots c.self.inside.sets) _ _ _ c.self.view_is) p ∙ sym c.in-None.ensures))
+    (no_keys c.args.self.now p (set_is (read g.P.Ptr.numbers _ c.self.inside.keys (g.B.ArenaStates.slots c.self.inside.sets) _ _ _ c.self.view_is) p ∙ sym c.in-None.ensures))

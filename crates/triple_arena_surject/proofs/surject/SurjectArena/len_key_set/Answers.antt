@@ -13,7 +13,7 @@ returns-in-Some-clause-keys g c =
     let name = g.P.Ptr.numbers c.in_ok-set.set in
     let shared = c.in-Some.shared.now in
     let told : look_up slots name ≡ Some shared = search rules in
-    has_keys (read g.P.Ptr.numbers c.self.inside.keys slots _ _ _ c.self.view_is) c.self.invariant c.len-len.ensures.linked (g.P.Ptr.numbers c.args.p) name shared (sym c.in_ok-set.ensures) told
+    has_keys (read g.P.Ptr.numbers _ c.self.inside.keys slots _ _ _ c.self.view_is) c.self.invariant c.len-len.ensures.linked (g.P.Ptr.numbers c.args.p) name shared (sym c.in_ok-set.ensures) told
 
 pub returns-in-Some-clause-fits : goal.returns-in-Some-clause-fits
 returns-in-Some-clause-fits g c =
@@ -31,4 +31,4 @@ returns-in-None-clause-keys g c =
 
 pub returns-in-Some-clause-there : goal.returns-in-Some-clause-there
 returns-in-Some-clause-there g c = λ _.
-    found_there (read g.P.Ptr.numbers c.self.inside.keys (g.B.ArenaStates.slots c.self.inside.sets) _ _ _ c.self.view_is) (g.P.Ptr.numbers c.args.p) (g.P.Ptr.numbers c.in_ok-set.set) (sym c.in_ok-set.ensures)
+    found_there (read g.P.Ptr.numbers _ c.self.inside.keys (g.B.ArenaStates.slots c.self.inside.sets) _ _ _ c.self.view_is) (g.P.Ptr.numbers c.args.p) (g.P.Ptr.numbers c.in_ok-set.set) (sym c.in_ok-set.ensures)

@@ -1,11 +1,11 @@
-use Rattle.std.proofs.Common.{◌≡◌, ◌+◌, Bool, not, List, map, None, Some, IsSome, refl, sym, ap, ◌∙◌, subst, arith}
+use Rattle.std.proofs.Common.{◌≡◌, ◌+◌, Bool, not, None, Some, IsSome, refl, sym, ap, ◌∙◌, subst, arith}
 use Rattle.std.specs.Prelude.{IfOk}
 use Rattle.std.specs.Option.{option_map}
 use Rattle.triple_arena_base.specs.Invalidation.{is_success_option}
 use Rattle.triple_arena_ptr.specs.Pointers.{Pointer}
-use Rattle.triple_arena.specs.Histories.{removal, CountsUp, Continues}
+use Rattle.triple_arena.specs.Entries.{entry_count}
 use Rattle.triple_arena_chain.specs.Chains.{nodes, IsChainRemoved}
-use Rattle.triple_arena_chain.specs.Endings.{EndInTurn}
+use Rattle.triple_arena_chain.specs.Endings.{EndsEntries}
 use Rattle.triple_arena_chain.specs.laws.OnceLaws.{fewer}
 use Rattle.triple_arena_chain.specs.laws.ResultLaws.{on_ok, if_ok}
 use Rattle.triple_arena_chain.specs.laws.TellingLaws.{wrap_is}
@@ -29,7 +29,7 @@ module _ (g : Over) (c : After-overflowing-keys g) where
   name = g.P.Ptr.numbers c.in-Some.set
 
   is : IsRead g.P.Ptr.numbers (nodes c.self.inside.keys) (g.B.ArenaStates.slots c.self.inside.sets) c.args.self.now
-  is = read g.P.Ptr.numbers c.self.inside.keys (g.B.ArenaStates.slots c.self.inside.sets) _ _ c.args.self.now c.self.view_is
+  is = read g.P.Ptr.numbers _ c.self.inside.keys (g.B.ArenaStates.slots c.self.inside.sets) _ _ c.args.self.now c.self.view_is
 
   of : label g.P.Ptr.numbers (nodes c.self.inside.keys) p ≡ Some name
   of = sym c.in-Some.ensures
@@ -71,31 +71,34 @@ pub returns-clause-removed : goal.returns-clause-removed
 returns-clause-removed g c =
     let at = (goal.at.returns-clause-removed g c).After-overflowing-keys in
     let sets = c.take-taken.new.sets in
-    set_removed (is g at) (read g.P.Ptr.numbers c.remove_chain-removed.new.self (g.B.ArenaStates.slots sets) (g.B.ArenaStates.capacity sets) (g.B.ArenaStates.limit sets) _ refl)
+    set_removed (is g at) (read g.P.Ptr.numbers _ c.remove_chain-removed.new.self (g.B.ArenaStates.slots sets) (g.B.ArenaStates.capacity sets) (g.B.ArenaStates.limit sets) _ refl)
     (p g at) (name g at) (of g at) (gone g at) (others g at) c.take-taken.ensures.others
 
-pub returns-clause-len_keys : goal.returns-clause-len_keys
-returns-clause-len_keys g c = λ n has.
-    let at = (goal.at.returns-clause-len_keys g c).After-overflowing-keys in
+pub returns-clause-size : goal.returns-clause-size
+returns-clause-size g c =
+    let at = (goal.at.returns-clause-size g c).After-overflowing-keys in
     let keys = c.self.inside.keys in
-    let left = fewer keys c.remove_chain-removed.new.self has.all c.len-len.ensures.counted c.len-left.ensures.counted has.are.once
-    (λ q within.
-    let of_q = together_is (is g at) (p g at) q (name g at) (of g at) ((has.are.among q).1 within) in
-    (labelled_there g.P.Ptr.numbers (nodes keys) q (name g at) of_q, gone g at q of_q))
-    (λ q none. others g at q (λ of_q. none ((has.are.among q).0 (together (is g at) (p g at) q (name g at) (of g at) of_q)))) in
-    subst (λ s. c.remove_chain-removed.new.self.len + n ≡ s.len_keys) c.self.view_is (omega (arith, left, has.size))
+    record {
+      len_keys = λ n has.
+          let left = fewer keys c.remove_chain-removed.new.self has.all c.len-len.ensures.counted c.len-left.ensures.counted has.are.once
+          (λ q within.
+          let of_q = together_is (is g at) (p g at) q (name g at) (of g at) ((has.are.among q).1 within) in
+          (labelled_there g.P.Ptr.numbers (nodes keys) q (name g at) of_q, gone g at q of_q))
+          (λ q none. others g at q (λ of_q. none ((has.are.among q).0 (together (is g at) (p g at) q (name g at) (of g at) of_q)))) in
+          subst (λ s. c.remove_chain-removed.new.self.len + n ≡ s.len_keys) c.self.view_is (omega (arith, left, has.size));
+      len_vals = subst (λ s. entry_count (g.B.ArenaStates.slots c.take-taken.new.sets) + 1 ≡ s.len_vals) c.self.view_is
+          (c.take-taken.ensures.len (subst IsSome (sym c.unwrap-out.ensures) refl));
+    }
 
 pub returns-clause-no_entry : goal.returns-clause-no_entry
 returns-clause-no_entry g c =
     let at = (goal.at.returns-clause-no_entry g c).After-overflowing-keys in
-    never c.args.self.now (p g at) _ _ (found_there (is g at) (p g at) (name g at) (of g at)) (λ e. absurd (cc))
+    record {
+      no_entry = never c.args.self.now (p g at) _ _ (found_there (is g at) (p g at) (name g at) (of g at)) (λ e. absurd (cc));
+      refusal = tt;
+    }
 
-pub returns-clause-wrap : goal.returns-clause-wrap
-returns-clause-wrap g c =
-    told_so g (goal.at.returns-clause-wrap g c).After-telling
-    (λ w arena. (gone : List Pointer) × EndInTurn g.A.ArenaStates.removes g.A.ArenaStates.with_value g.A.ArenaStates.ending_wraps arena gone w c.remove_chain-removed.new.self.arena) c.remove_chain-removed.ensures.wrap
-
-pub returns-clause-history : goal.returns-clause-history
-returns-clause-history g c =
-    told_so g (goal.at.returns-clause-history g c).After-telling
-    (λ w arena. CountsUp g.P.Gen.PtrGen.generations w → (gone : List Pointer) × Continues g.A.ArenaStates.fits arena (map removal gone) c.remove_chain-removed.new.self.arena) c.remove_chain-removed.ensures.history
+pub returns-clause-ended : goal.returns-clause-ended
+returns-clause-ended g c =
+    told_so g (goal.at.returns-clause-ended g c).After-telling
+    (λ w arena. EndsEntries g.A.ArenaStates.removes g.A.ArenaStates.with_value g.A.ArenaStates.fits g.P.Gen.PtrGen.generations g.A.ArenaStates.ending_wraps arena w c.remove_chain-removed.new.self.arena) c.remove_chain-removed.ensures.ended

@@ -31,7 +31,7 @@ module _ (g : Over) (c : After-unwrap-out g) where
   other = g.P.Ptr.numbers c.unwrap-other.result
 
   is : IsRead g.P.Ptr.numbers (nodes c.self.inside.keys) (g.B.ArenaStates.slots c.self.inside.sets) c.args.self.now
-  is = read g.P.Ptr.numbers c.self.inside.keys (g.B.ArenaStates.slots c.self.inside.sets) _ _ c.args.self.now c.self.view_is
+  is = read g.P.Ptr.numbers _ c.self.inside.keys (g.B.ArenaStates.slots c.self.inside.sets) _ _ c.args.self.now c.self.view_is
 
   of_p : label g.P.Ptr.numbers (nodes c.self.inside.keys) p ≡ Some name
   of_p = sym c.set_of-first.ensures ∙ ap (option_map g.P.Ptr.numbers) c.unwrap-set.ensures
@@ -53,11 +53,11 @@ module _ (g : Over) (c : After-unwrap-out g) where
 
 pub unwrap-set-requires : goal.unwrap-set-requires
 unwrap-set-requires g c =
-    set_there (read g.P.Ptr.numbers c.self.inside.keys (g.B.ArenaStates.slots c.self.inside.sets) _ _ c.args.self.now c.self.view_is) (g.P.Ptr.numbers c.args.kept) c.requires.kept c.set_of-first.result c.set_of-first.ensures
+    set_there (read g.P.Ptr.numbers _ c.self.inside.keys (g.B.ArenaStates.slots c.self.inside.sets) _ _ c.args.self.now c.self.view_is) (g.P.Ptr.numbers c.args.kept) c.requires.kept c.set_of-first.result c.set_of-first.ensures
 
 pub unwrap-other-requires : goal.unwrap-other-requires
 unwrap-other-requires g c =
-    set_there (read g.P.Ptr.numbers c.self.inside.keys (g.B.ArenaStates.slots c.self.inside.sets) _ _ c.args.self.now c.self.view_is) (g.P.Ptr.numbers c.args.gone) c.requires.gone c.set_of-second.result c.set_of-second.ensures
+    set_there (read g.P.Ptr.numbers _ c.self.inside.keys (g.B.ArenaStates.slots c.self.inside.sets) _ _ c.args.self.now c.self.view_is) (g.P.Ptr.numbers c.args.gone) c.requires.gone c.set_of-second.result c.set_of-second.ensures
 
 pub unwrap-out-requires : goal.unwrap-out-requires
 unwrap-out-requires g c =
@@ -136,7 +136,7 @@ returns-clause-united g c =
     let both = c.size_of-count.result + c.unwrap-out.result.keys in
     let merge = merged g.P.Ptr.numbers old (nodes c.relabel.new.keys) new (p g at) (q g at) c.unwrap-set.result (other g at) (of_p g at) (of_q g at) (apart g at)
     c.relabel.ensures.moved c.relabel.ensures.others c.relabel.ensures.afters c.splice.ensures.spliced in
-    sets_united (is g at) (read g.P.Ptr.numbers c.splice.new.keys (g.B.ArenaStates.slots sets) (g.B.ArenaStates.capacity sets) (g.B.ArenaStates.limit sets) _ refl)
+    sets_united (is g at) (read g.P.Ptr.numbers _ c.splice.new.keys (g.B.ArenaStates.slots sets) (g.B.ArenaStates.capacity sets) (g.B.ArenaStates.limit sets) _ refl)
     (p g at) (q g at) c.unwrap-set.result (other g at) both merge
     (c.count_keys.ensures.there ∙ ap (option_map (with_keys both)) (c.take-taken.ensures.others (name g at) (apart g at)))
     (λ e far away. c.count_keys.ensures.others e far ∙ c.take-taken.ensures.others e away)

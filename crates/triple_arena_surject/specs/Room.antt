@@ -1,0 +1,153 @@
+-- How many keys and sets there are and how much room, and how calls are answered by that room and by memory.
+use Rattle.std.specs.Prelude.{◌≡◌, ◌↔◌, ◌⊎◌, ℕ, ◌+◌, ◌≤◌, ◌<◌, List, [], Option, None, Some, Result, Err, IsOk, MatchOption}
+use Rattle.std.specs.Result.{IfErr}
+use Rattle.triple_arena_ptr.specs.Pointers.{Pointer}
+use Rattle.triple_arena_stack.specs.Capacity.{IsFullAtLimit, CanGrow}
+use Rattle.triple_arena.specs.Histories.{History, Continues}
+use Rattle.triple_arena_surject.specs.declared.refusal.SurjectError.{SurjectError}
+use Rattle.triple_arena_surject.specs.declared.refusal.SurjectError.TheVariants.{NoEntry, NoRoom, NoMemory}
+use Rattle.triple_arena_surject.specs.Surject.{SurjectState, found_at, named, HasKeys, IsUnion}
+
+-- room or memory was refused
+abbrev pub IsRefusedRoom : SurjectError → Type 0
+IsRefusedRoom NoEntry = ⊥
+IsRefusedRoom NoRoom = Unit {0}
+IsRefusedRoom NoMemory = Unit {0}
+
+-- one more fits into an arena of this capacity, this limit and so many entries: it has a place, or can grow
+abbrev pub FitsOneMore : (has_memory : ℕ → Type 0) (greatest capacity : ℕ) (limit : Option ℕ) (len : ℕ) → Type 0
+FitsOneMore has_memory greatest capacity limit len = (len < capacity) ⊎ CanGrow has_memory capacity limit greatest
+
+module _ {A B K V : Type 0} where
+  abbrev pub FitsKey : (has_memory : ℕ → Type 0) (greatest : ℕ) → SurjectState A B K V → Type 0
+  FitsKey has_memory greatest s = FitsOneMore has_memory greatest s.key_capacity s.key_limit s.len_keys
+
+  abbrev pub FitsVal : (has_memory : ℕ → Type 0) (greatest : ℕ) → SurjectState A B K V → Type 0
+  FitsVal has_memory greatest s = FitsOneMore has_memory greatest s.val_capacity s.val_limit s.len_vals
+
+  -- the arena of keys, or that of values, is full at its limit
+  abbrev pub KeysAreFull : SurjectState A B K V → Type 0
+  KeysAreFull s = IsFullAtLimit s.key_capacity s.key_limit s.len_keys
+
+  abbrev pub ValsAreFull : SurjectState A B K V → Type 0
+  ValsAreFull s = IsFullAtLimit s.val_capacity s.val_limit s.len_vals
+
+  -- no pointer finds anything; there are these capacities and these limits
+  pub record AreNoSets (for_keys : ℕ) (most_keys : Option ℕ) (for_vals : ℕ) (most_vals : Option ℕ) (s : SurjectState A B K V) : Type 0 where
+    pub none : (q : Pointer) → found_at s q ≡ None
+    pub len_keys : s.len_keys ≡ 0
+    pub len_vals : s.len_vals ≡ 0
+    pub key_capacity : s.key_capacity ≡ for_keys
+    pub key_limit : s.key_limit ≡ most_keys
+    pub val_capacity : s.val_capacity ≡ for_vals
+    pub val_limit : s.val_limit ≡ most_vals
+
+  -- there is as much room as before for keys and values
+  pub record HasSameRoom (old new : SurjectState A B K V) : Type 0 where
+    pub key_capacity : new.key_capacity ≡ old.key_capacity
+    pub key_limit : new.key_limit ≡ old.key_limit
+    pub val_capacity : new.val_capacity ≡ old.val_capacity
+    pub val_limit : new.val_limit ≡ old.val_limit
+
+  -- and as many of both
+  pub record KeepsSize (old new : SurjectState A B K V) : Type 0 where
+    pub len_keys : new.len_keys ≡ old.len_keys
+    pub len_vals : new.len_vals ≡ old.len_vals
+    pub key_capacity : new.key_capacity ≡ old.key_capacity
+    pub key_limit : new.key_limit ≡ old.key_limit
+    pub val_capacity : new.val_capacity ≡ old.val_capacity
+    pub val_limit : new.val_limit ≡ old.val_limit
+
+  -- there are as many sets, and as much room for their values
+  pub record KeepsVals (old new : SurjectState A B K V) : Type 0 where
+    pub len_vals : new.len_vals ≡ old.len_vals
+    pub val_capacity : new.val_capacity ≡ old.val_capacity
+    pub val_limit : new.val_limit ≡ old.val_limit
+
+  -- there are as many keys, and as much room; a history of the arena of keys goes on as it is
+  pub record KeepsKeys (fits : History → A → Type 0) (old new : SurjectState A B K V) : Type 0 where
+    pub len_keys : new.len_keys ≡ old.len_keys
+    pub room : HasSameRoom old new
+    pub history : Continues fits old.arena [] new.arena
+
+  -- there is one key more and one value more; a full arena has grown as its own insertions have it grow
+  pub record HasOneMore (capacity_of : A → ℕ) (grown_from : A → A) (val_capacity_of : B → ℕ) (val_grown_from : B → B) (old new : SurjectState A B K V) : Type 0 where
+    pub len_keys : new.len_keys ≡ old.len_keys + 1
+    pub len_vals : new.len_vals ≡ old.len_vals + 1
+    pub key_capacity : old.key_capacity ≤ new.key_capacity
+    pub key_limit : new.key_limit ≡ old.key_limit
+    pub val_capacity : old.val_capacity ≤ new.val_capacity
+    pub val_limit : new.val_limit ≡ old.val_limit
+    pub grown : new.key_capacity ≡ capacity_of (grown_from old.arena)
+    pub val_grown : new.val_capacity ≡ val_capacity_of (val_grown_from old.val_arena)
+
+  -- there is one key more, and a full arena has grown as its own insertions have it grow; where a place was, the capacity stays
+  pub record HasKeyMore (capacity_of : A → ℕ) (grown_from : A → A) (old new : SurjectState A B K V) : Type 0 where
+    pub len_keys : new.len_keys ≡ old.len_keys + 1
+    pub key_capacity : old.key_capacity ≤ new.key_capacity
+    pub key_limit : new.key_limit ≡ old.key_limit
+    pub grown : new.key_capacity ≡ capacity_of (grown_from old.arena)
+    pub had_place : old.len_keys < old.key_capacity → new.key_capacity ≡ old.key_capacity
+
+  -- an arena that had a place has the capacity that it had
+  pub record GrowsWhereFull (old new : SurjectState A B K V) : Type 0 where
+    pub keys : old.len_keys < old.key_capacity → new.key_capacity ≡ old.key_capacity
+    pub vals : old.len_vals < old.val_capacity → new.val_capacity ≡ old.val_capacity
+
+  -- every pointer finds the same key in the same set, and every set has the same value; there are as many of both, the arena of
+  -- the keys is the same, and that of the values has its capacity, or has grown as its own insertions have it grow
+  pub record IsSame (val_capacity_of : B → ℕ) (val_grown_from : B → B) (old new : SurjectState A B K V) : Type 0 where
+    pub keys : (q : Pointer) → found_at new q ≡ found_at old q
+    pub vals : (c : Pointer) → named new c ≡ named old c
+    pub arena : new.arena ≡ old.arena
+    pub len_keys : new.len_keys ≡ old.len_keys
+    pub len_vals : new.len_vals ≡ old.len_vals
+    pub key_capacity : new.key_capacity ≡ old.key_capacity
+    pub key_limit : new.key_limit ≡ old.key_limit
+    pub val_capacity : old.val_capacity ≤ new.val_capacity
+    pub val_limit : new.val_limit ≡ old.val_limit
+    pub val_grown : (new.val_capacity ≡ old.val_capacity) ⊎ (new.val_capacity ≡ val_capacity_of (val_grown_from old.val_arena))
+
+  -- a key is refused for want of room exactly where the arena of keys is full at its limit, else for want of memory; and neither
+  -- where memory is there, nor where a place is
+  pub record DependsOnKeys {X : Type 0} (has_memory : ℕ → Type 0) (greatest : ℕ) (old : SurjectState A B K V) (result : Result X SurjectError) : Type 0 where
+    pub refusal : IfErr result IsRefusedRoom
+    pub no_room : (result ≡ Err NoRoom) ↔ KeysAreFull old
+    pub with_memory : CanGrow has_memory old.key_capacity old.key_limit greatest → IsOk result
+    pub had_place : old.len_keys < old.key_capacity → IsOk result
+
+  -- a key with its value is refused for want of room where the arena of values is full at its limit, and where that takes one
+  -- more, exactly where the arena of keys is; else for want of memory where one of both is full. It isn't refused where each of
+  -- both takes one more
+  pub record DependsOnBoth {X : Type 0} (has_memory val_has_memory : ℕ → Type 0) (greatest : ℕ) (old : SurjectState A B K V) (result : Result X SurjectError) : Type 0 where
+    pub refusal : IfErr result IsRefusedRoom
+    pub vals_first : ValsAreFull old → result ≡ Err NoRoom
+    pub full_vals : ¬ KeysAreFull old → (result ≡ Err NoRoom) ↔ ValsAreFull old
+    pub full_keys : FitsVal val_has_memory greatest old → (result ≡ Err NoRoom) ↔ KeysAreFull old
+    pub no_room : result ≡ Err NoRoom → ValsAreFull old ⊎ KeysAreFull old
+    pub no_memory : result ≡ Err NoMemory → (old.val_capacity ≤ old.len_vals) ⊎ (old.key_capacity ≤ old.len_keys)
+    pub fits : FitsKey has_memory greatest old → FitsVal val_has_memory greatest old → IsOk result
+
+  -- two sets are made one of them, so that there is one value less
+  pub record MakesOne (old : SurjectState A B K V) (p q : Pointer) (gives : Option V) (new : SurjectState A B K V) : Type 0 where
+    pub union : IsUnion old p q gives new
+    pub len_vals : new.len_vals + 1 ≡ old.len_vals
+
+  -- there is one value less, and as much room as before for keys and values
+  pub record HasOneLess (old new : SurjectState A B K V) : Type 0 where
+    pub len_keys : new.len_keys ≡ old.len_keys
+    pub len_vals : new.len_vals + 1 ≡ old.len_vals
+    pub key_capacity : new.key_capacity ≡ old.key_capacity
+    pub key_limit : new.key_limit ≡ old.key_limit
+    pub val_capacity : new.val_capacity ≡ old.val_capacity
+    pub val_limit : new.val_limit ≡ old.val_limit
+
+  -- there is one key less, and one value less where one comes out
+  pub record HasKeyLess (out : Option V) (old new : SurjectState A B K V) : Type 0 where
+    pub len_keys : new.len_keys + 1 ≡ old.len_keys
+    pub len_vals : MatchOption out (new.len_vals ≡ old.len_vals) (λ _. new.len_vals + 1 ≡ old.len_vals)
+
+  -- there are as many keys less as a pointer's set had, and one value less
+  pub record HasSetLess (old : SurjectState A B K V) (p : Pointer) (new : SurjectState A B K V) : Type 0 where
+    pub len_keys : (n : ℕ) → HasKeys old p n → new.len_keys + n ≡ old.len_keys
+    pub len_vals : new.len_vals + 1 ≡ old.len_vals

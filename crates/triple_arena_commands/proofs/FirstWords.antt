@@ -1,6 +1,6 @@
 -- The first word of a line, by the bytes at the front, and what commands make of it.
-use Rattle.std.proofs.Common.{◌≡◌, ℕ, ◌+◌, ◌-◌, ◌*◌, ◌^◌, ◌<◌, ◌≤◌, Bool, true, false, cond, List, [], ◌∷◌, ◌++◌, Option, None, Some, suc, length, take, drop, slice_index, sym, ap, ◌∙◌, refl, subst, arith, nat_eq, take_all, length-drop, take-append-drop, length-take-le, true≢false}
-use Rattle.std.specs.Prelude.{codes, ◌||◌}
+use Rattle.std.proofs.Common.{◌≡◌, ℕ, ◌+◌, ◌-◌, ◌*◌, ◌^◌, ◌<◌, ◌≤◌, Bool, true, false, cond, List, [], ◌∷◌, ◌++◌, Option, None, Some, suc, length, take, drop, slice_index, sym, ap, ◌∙◌, refl, subst, arith, nat_eq, take_all, take-append-drop, length-take-le, true≢false}
+use Rattle.std.specs.Prelude.{◌≢◌, codes, ◌||◌}
 use Rattle.std.specs.Option.{option_map, option_and_then}
 use Rattle.std.specs.Char.{is_ascii_digit, digit_value}
 use Rattle.std.specs.Int.{IsInRange}
@@ -260,10 +260,6 @@ module _ (verb : List ℕ) (made : ℕ → Command ℕ) (takes : (n : ℕ) → n
   number_after : (text : List ℕ) → option_map made (number_of text) ≡ command_of_words (verb ∷ words_of text)
   number_after text = let some = parts-some is_space text in by_words text some.0 some.1 some.2 ∙ sym (ap (λ words. command_of_words (verb ∷ words)) some.2)
 
--- what follows the first bytes of a line, as a pattern of a slice gives it
-pub rest_after : (n : ℕ) (line : List ℕ) → take (length line - n) (drop n line) ≡ drop n line
-rest_after n line = take_all (length line - n) (drop n line) (omega (arith, length-drop n line))
-
 pub get_line : (line text : List ℕ) → line ≡ codes "get " ++ text → option_map Get (number_of text) ≡ command_of line
 get_line line text e = number_after (codes "get") Get (λ n. refl) (λ d l. refl) refl text ∙ sym (ap command_of e ∙ ap command_of_words (front_of (codes "get") text refl))
 
@@ -283,3 +279,14 @@ link_after word text d is =
     by link [] e = takes_link (link_of text) ∙ ap (λ w. insert_of (codes "insert") (Some d) (link_of w)) (alone text link e) ∙ sym (ap (λ o. insert_of (codes "insert") o (link_of link)) is)
     by link (second ∷ []) e = ap (option_map (Insert d)) (more_no_link text link second [] e) ∙ no_set (codes "insert") refl (number_of word) (number_of link) (link_of second)
     by link (second ∷ third ∷ words) e = ap (option_map (Insert d)) (more_no_link text link second (third ∷ words) e)
+
+-- ---- the verb of a line that doesn't begin with a text and a space
+
+pub other_verb : (line text verb word : List ℕ) (words : List (List ℕ)) → ((rest : List ℕ) → line ≢ text ++ 32 ∷ rest) → words_of line ≡ verb ∷ word ∷ words → bytes_eq verb text ≡ false
+other_verb line text verb word words begins e = by (bytes_eq verb text) refl
+  where
+    by : (same : Bool) → bytes_eq verb text ≡ same → same ≡ false
+    by true same =
+        let whole : line ≡ verb ++ 32 ∷ join_with_byte 32 (word ∷ words) = sym (join_with_byte-slice_split 32 line) ∙ ap (join_with_byte 32) e in
+        absurd (begins (join_with_byte 32 (word ∷ words)) (whole ∙ ap (λ v. v ++ 32 ∷ join_with_byte 32 (word ∷ words)) ((bytes_eq-Decides verb text).0 same)))
+    by false same = refl

@@ -1,5 +1,5 @@
 -- The command that a line stands for.
-use Rattle.std.specs.Prelude.{ℕ, ◌^◌, ◌&&◌, Bool, List, [], ◌∷◌, Option, None, Some, codes, nat_lt, length, if◌then◌else◌}
+use Rattle.std.specs.Prelude.{◌≡◌, ℕ, ◌^◌, ◌&&◌, Bool, false, List, [], ◌∷◌, Option, None, Some, codes, nat_lt, length, if◌then◌else◌}
 use Rattle.std.specs.Option.{option_map, option_and_then}
 use Rattle.std.specs.Char.{is_ascii_digit}
 use Rattle.std.specs.List.{list_all}
@@ -68,3 +68,11 @@ command_of_words words = None
 -- the one command that a line stands for, or none.
 abbrev pub command_of : List ℕ → Option (Command ℕ)
 command_of line = command_of_words (words_of line)
+
+-- a verb is none of the three that are told by the first bytes of their line
+abbrev pub IsOtherVerb : List ℕ → Type 0
+IsOtherVerb verb = (bytes_eq verb (codes "get") ≡ false) × (bytes_eq verb (codes "insert") ≡ false) × (bytes_eq verb (codes "remove") ≡ false)
+
+-- so is the verb of a line, where words follow it
+abbrev pub HasOtherVerb : List ℕ → Type 0
+HasOtherVerb line = (verb word : List ℕ) (words : List (List ℕ)) → words_of line ≡ verb ∷ word ∷ words → IsOtherVerb verb

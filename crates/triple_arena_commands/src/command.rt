@@ -2,7 +2,7 @@
 
 ghost use Rattle.std.specs.Prelude.{◌≡◌, ◌∷◌, ℕ, List, Some, codes};
 ghost use Rattle.triple_arena_commands.specs.Lines.{words_of};
-ghost use Rattle.triple_arena_commands.specs.CommandText.{number_of, link_of, bare_of, numbered, linked, set_of, command_of_words, command_of};
+ghost use Rattle.triple_arena_commands.specs.CommandText.{number_of, link_of, bare_of, numbered, linked, set_of, command_of_words, command_of, IsOtherVerb, HasOtherVerb};
 
 use crate::splitting::split_first;
 use crate::words::{parse_link, parse_number, read_link, read_number};
@@ -49,15 +49,15 @@ pub enum Command<X> {
 pub fn parse_command(line: &[u8]) -> Option<Command<u64>>
     ensures { result ≡ command_of line.now }
 {
-    // These three are told by their first bytes, which is quicker; `parse_any` tells every verb.
-    if let [b'g', b'e', b't', b' ', name @ ..] = line {
+    // These three are told by their first bytes, which is quicker; `parse_other` tells the other verbs.
+    if let Some(name) = line.strip_prefix(b"get ") {
         Some(Command::Get(parse_number(name)? as usize))
-    } else if let [b'i', b'n', b's', b'e', b'r', b't', b' ', rest @ ..] = line {
+    } else if let Some(rest) = line.strip_prefix(b"insert ") {
         parse_insertion(rest)
-    } else if let [b'r', b'e', b'm', b'o', b'v', b'e', b' ', name @ ..] = line {
+    } else if let Some(name) = line.strip_prefix(b"remove ") {
         Some(Command::Remove(parse_number(name)? as usize))
     } else {
-        parse_any(line)
+        parse_other(line)
     }
 }
 
@@ -71,8 +71,9 @@ fn parse_insertion(rest: &[u8]) -> Option<Command<u64>>
     Some(Command::Insert(datum, link))
 }
 
-// The command of a line with any verb.
-fn parse_any(line: &[u8]) -> Option<Command<u64>>
+// The command of a line whose verb, where words follow it, is another than those three.
+fn parse_other(line: &[u8]) -> Option<Command<u64>>
+    requires { HasOtherVerb line.now }
     ensures { result ≡ command_of line.now }
 {
     let (verb, after_verb) = split_first(line, b' ');
@@ -82,9 +83,10 @@ fn parse_any(line: &[u8]) -> Option<Command<u64>>
     }
 }
 
-// The command of a verb and the words after it.
+// The command of such a verb and the words after it.
 #[inline(always)]
 fn parse_arguments(verb: &[u8], rest: &[u8]) -> Option<Command<u64>>
+    requires { IsOtherVerb verb.now }
     ensures { result ≡ command_of_words (verb.now ∷ words_of rest.now) }
 {
     let (first, after_first) = read_number(rest)?;
@@ -94,15 +96,16 @@ fn parse_arguments(verb: &[u8], rest: &[u8]) -> Option<Command<u64>>
     }
 }
 
-// The command of a verb, a word that writes this number, and the words after it.
+// The command of such a verb, a word that writes this number, and the words after it.
 #[inline(always)]
 fn parse_after_first(verb: &[u8], first: u64, rest: &[u8]) -> Option<Command<u64>>
+    requires { IsOtherVerb verb.now }
     ensures { (word : List ℕ) → number_of word ≡ Some first
         → result ≡ command_of_words (verb.now ∷ word ∷ words_of rest.now) }
 {
     let (second, after_second) = read_link(rest)?;
     match after_second {
-        None => parse_insert(verb, first, second),
+        None => parse_within(verb, first, second),
         Some(rest) => parse_after_second(verb, first as usize, second, rest),
     }
 }
@@ -147,16 +150,13 @@ fn parse_bare(verb: &[u8]) -> Option<Command<u64>>
     }
 }
 
-// The command of a verb before a number.
+// The command of such a verb before a number.
 #[inline(always)]
 fn parse_numbered(verb: &[u8], number: usize) -> Option<Command<u64>>
+    requires { IsOtherVerb verb.now }
     ensures { result ≡ numbered verb.now number }
 {
-    if verb == b"get".as_slice() {
-        Some(Command::Get(number))
-    } else if verb == b"remove".as_slice() {
-        Some(Command::Remove(number))
-    } else if verb == b"invalidate".as_slice() {
+    if verb == b"invalidate".as_slice() {
         Some(Command::Invalidate(number))
     } else if verb == b"reserve".as_slice() {
         Some(Command::Reserve(number))
@@ -165,14 +165,13 @@ fn parse_numbered(verb: &[u8], number: usize) -> Option<Command<u64>>
     }
 }
 
-// The command of a verb before a datum and a link.
+// The command of such a verb before a datum and a link.
 #[inline(always)]
-fn parse_insert(verb: &[u8], datum: u64, link: Option<usize>) -> Option<Command<u64>>
+fn parse_within(verb: &[u8], datum: u64, link: Option<usize>) -> Option<Command<u64>>
+    requires { IsOtherVerb verb.now }
     ensures { result ≡ linked verb.now datum link }
 {
-    if verb == b"insert".as_slice() {
-        Some(Command::Insert(datum, link))
-    } else if verb == b"within".as_slice() {
+    if verb == b"within".as_slice() {
         Some(Command::InsertWithin(datum, link))
     } else {
         None

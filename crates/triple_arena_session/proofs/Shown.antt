@@ -1,6 +1,6 @@
 -- Sessions whose fields hold a state, and what the arena's and the table's answers make of it.
 use Rattle.std.proofs.Common.{◌≡◌, ℕ, ◌+◌, ◌==◌, ◌<◌, ◌≤◌, Bool, true, false, List, [], ◌∷◌, ◌++◌, map, length, Option, Some, None, is_some, refl, sym, ap, subst, ◌∙◌, inl, inr, ◌⊎◌, true≢false, arith}
-use Rattle.std.specs.Prelude.{nat_le, Result, Err, IsOk}
+use Rattle.std.specs.Prelude.{nat_le, Result, Err, IsOk, ◌↔◌}
 use Rattle.triple_arena_base.specs.declared.errors.ReallocationError.{ReallocationError}
 use Rattle.triple_arena_base.specs.declared.errors.ReallocationError.TheVariants as refused
 use Rattle.std.proofs.lemmas.Bool.{cases_eq}
@@ -21,14 +21,14 @@ use Rattle.triple_arena_traits.specs.Insertion.{inserted, next_pointer}
 use Rattle.triple_arena_traits.specs.FreeList.{tidied}
 use Rattle.triple_arena_traits.specs.Reallocation.{grown, reallocated, KeepsRoom}
 use Rattle.triple_arena_traits.specs.Ending.{told_of, map_told, removed, invalidated}
-use Rattle.triple_arena_commands.specs.declared.command.Command.TheVariants.{Reserve}
+use Rattle.triple_arena_commands.specs.declared.command.Command.TheVariants.{Insert, Reserve}
 use Rattle.triple_arena_commands.specs.declared.reply.Reply.{Reply}
 use Rattle.triple_arena_commands.specs.declared.reply.Reply.TheVariants.{Given, Full, BeyondMaxCapacity, NoMemory, Done, Removed, Invalid}
 use Rattle.triple_arena_commands.specs.Limits.{is_at_limit, is_within}
 use Rattle.triple_arena_session.specs.declared.node.Node.{Node}
-use Rattle.triple_arena_session.specs.SessionState.{SessionState, node_of, link_name, named}
+use Rattle.triple_arena_session.specs.SessionState.{SessionState, node_of, link_name, link_pointer, named}
 use Rattle.triple_arena_session.specs.SessionLayout.{session_of}
-use Rattle.triple_arena_session.specs.SessionRun.{with_room_for_name, give, act_on, act_under, refusal, with_tidied_arena, remove_under, invalidate_under, insert_within_answer, reserve_answer, TableWantsMemory, ArenaWantsMemory, RoomWantsMemory, IsStep}
+use Rattle.triple_arena_session.specs.SessionRun.{refused_reply, insert_unless, insert_answer, with_room_for_name, give, act_on, act_under, refusal, with_tidied_arena, remove_under, invalidate_under, insert_within_answer, reserve_answer, TableWantsMemory, ArenaWantsMemory, RoomWantsMemory, IsStep}
 use Rattle.triple_arena_session.proofs.Mapped.{len-mapped, look_up-mapped, next_pointer-mapped, inserted-mapped, grown-mapped, with_value-mapped, removed-mapped, invalidated-mapped, tidied-mapped, reallocated-mapped}
 
 none_some : {A : Type 0} {x : A} → None ≡ Some x → ⊥
@@ -147,6 +147,16 @@ not_placed s datum link full = rw full refl
 
 pub below : (m n : ℕ) → m ≤ n → (m == n) ≡ false → m < n
 below m n le other = grind (arith, nat_tests, le, other)
+
+-- an insertion that nothing but memory could help, or not even that
+pub refused_insert : {X : Type 0} (kind : StackKind) (has_memory : ℕ → Type 0) (generations : Generations) (s : SessionState X) (datum : X) (link : Option ℕ) (target : Option Pointer) (why : ReallocationError) (reply : Reply X) → link_pointer s.table link ≡ Some target → refusal s.arena ≡ Some why → reply ≡ refused_reply why
+    → IsStep kind has_memory generations s (Insert datum link) reply s
+refused_insert {X} kind has_memory generations s datum link target why reply good full is =
+    subst (λ r. IsStep kind has_memory generations s (Insert datum link) r s) (sym is) (by why (ap (insert_answer kind generations s datum) good ∙ ap (λ w. insert_unless kind generations w s datum target) full))
+  where
+    by : (w : ReallocationError) → insert_answer kind generations s datum (link_pointer s.table link) ≡ (refused_reply {X = X} w, s) → IsStep kind has_memory generations s (Insert datum link) (refused_reply w) s
+    by refused.BeyondMaxCapacity answered = sym answered
+    by refused.AllocError answered = inl (sym answered)
 
 -- what the session answers to a reservation
 module _ {X : Type 0} (kind : StackKind) (generations : Generations) (s : SessionState X) (m : ℕ) where
@@ -341,3 +351,11 @@ module _ {X P : Type 0} (pointer : P → Pointer) (arena : ArenaState (Node X P)
           by_range : (b : Bool) → nat_le m s.arena.greatest ≡ b → IsStep kind has_memory generations s (Reserve m) NoMemory (session_of pointer new_arena table room)
           by_range false past = inl (with_state NoMemory (ordered arena_is) ∙ sym (chosen_past kind generations s m past))
           by_range true le = inr (by_limit (subst (λ n. m ≤ n) (sym greatest-shown) (true_le m s.arena.greatest le)) (within_or_beyond arena.limit m), ordered arena_is)
+
+      pub reserved_refused : (r : Result (Unit {0}) ReallocationError) (why : ReallocationError) → r ≡ Err why → reply ≡ refused_reply why → (r ≡ Err refused.BeyondMaxCapacity) ↔ ((m ≤ arena.greatest) × IsBeyond arena.limit m)
+          → (m ≤ arena.greatest → IsWithin arena.limit m → KeepsRoom kind arena m → IsOk r) → (m ≤ arena.greatest → IsWithin arena.limit m → has_memory (reallocated kind arena m).room → IsOk r) → new_arena ≡ tidied arena → Reserved
+      reserved_refused r refused.BeyondMaxCapacity fails is beyond keeps gets arena_is =
+          let past = beyond.0 fails in
+          reserved_beyond is past.0 past.1 arena_is
+      reserved_refused r refused.AllocError fails is beyond keeps gets arena_is =
+          reserved_not is (λ le past. no_beyond fails refl (beyond.1 (le, past))) (λ le within same. no_success fails (keeps le within same)) (λ le within there. no_success fails (gets le within there)) arena_is

@@ -1,5 +1,7 @@
 -- The model calls on the arena of a session that a command is, and those of commands one after another.
-use Rattle.std.specs.Prelude.{ℕ, ◌+◌, List, [], ◌∷◌, ◌++◌, take, Option, Some, None}
+use Rattle.std.specs.Prelude.{◌≡◌, ℕ, ◌+◌, true, false, List, [], ◌∷◌, ◌++◌, take, Option, Some, None}
+use Rattle.std.specs.List.{list_any}
+use Rattle.triple_arena_ptr.specs.Numbers.{Generations}
 use Rattle.triple_arena_ptr.specs.Pointers.{Pointer}
 use Rattle.triple_arena_traits.specs.Items.{item}
 use Rattle.triple_arena_traits.specs.Insertion.{next_pointer}
@@ -11,6 +13,7 @@ use Rattle.triple_arena_commands.specs.declared.command.Command.TheVariants.{Ins
 use Rattle.triple_arena_commands.specs.declared.reply.Reply.{Reply}
 use Rattle.triple_arena_commands.specs.declared.reply.Reply.TheVariants.{Given, Removed, Cleared, Compacted}
 use Rattle.triple_arena_commands.specs.Runs.{IsRun, TellsOfNoWrap}
+use Rattle.triple_arena_commands.specs.StrictStore.{tells_exhausted}
 use Rattle.triple_arena_session.specs.SessionState.{SessionState}
 use Rattle.triple_arena_session.specs.Compaction.{compacted}
 
@@ -45,6 +48,13 @@ module _ {X : Type 0} where
   abbrev pub KeepsHistories : (Step : SessionState X → Command X → Reply X → SessionState X → Type 0) → SessionState X → List (Command X) → List (Reply X) → SessionState X → Type 0
   KeepsHistories Step s commands replies t =
       (ran : IsRun Step s commands replies t) → TellsOfNoWrap replies → Continues Fits s.arena (calls_in Step s commands replies t ran) t.arena
+
+  -- a run of any session, sound or not. Where generations count, histories go on (`calls`), and of each front of the commands
+  -- and replies there is what stood after it, and they went on so far (`fronts`). No reply is `Exhausted`
+  pub record RunGoesOn (generations : Generations) (Step : SessionState X → Command X → Reply X → SessionState X → Type 0) (s : SessionState X) (commands : List (Command X)) (replies : List (Reply X)) (t : SessionState X) : Type 0 where
+    pub calls : generations.counting ≡ true → KeepsHistories Step s commands replies t
+    pub fronts : generations.counting ≡ true → (count : ℕ) → (after : SessionState X) × IsRun Step s (take count commands) (take count replies) after × KeepsHistories Step s (take count commands) (take count replies) after
+    pub never : list_any tells_exhausted replies ≡ false
 
   -- commands ran with these replies, and the model calls take each history that fits the arena to one that fits
   abbrev pub RunsFreshly : (Step : SessionState X → Command X → Reply X → SessionState X → Type 0) → SessionState X → List (Command X) → List (Reply X) → SessionState X → Type 0

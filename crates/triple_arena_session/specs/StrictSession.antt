@@ -1,14 +1,17 @@
 -- What each command makes of a strict session, and the strict store that it shows.
-use Rattle.std.specs.Prelude.{ℕ, ◌-◌, ◌&&◌, Bool, is_some}
+use Rattle.std.specs.Prelude.{◌≡◌, ◌≤◌, ℕ, ◌-◌, ◌&&◌, Bool, true, is_some, List, length}
 use Rattle.triple_arena_ptr.specs.Numbers.{Generations, wraps}
 use Rattle.triple_arena_stack.specs.StackKind.{StackKind}
 use Rattle.triple_arena_traits.specs.ArenaState.{arena_len}
+use Rattle.triple_arena_traits.specs.Walks.{keys}
+use Rattle.triple_arena_traits.specs.Histories.{begun_with, Fits}
 use Rattle.triple_arena_commands.specs.declared.command.Command.{Command}
 use Rattle.triple_arena_commands.specs.declared.reply.Reply.{Reply}
+use Rattle.triple_arena_commands.specs.Runs.{TellsOfNoWrap}
 use Rattle.triple_arena_commands.specs.StrictStore.{raises, IsStrictly, StrictStore}
 use Rattle.triple_arena_session.specs.SessionState.{SessionState, named}
 use Rattle.triple_arena_session.specs.SessionRun.{IsStep}
-use Rattle.triple_arena_session.specs.Shown.{shown}
+use Rattle.triple_arena_session.specs.Shown.{shown, IsSound, IsArenaOver}
 
 module _ {X : Type 0} where
   -- whether a command to a session raises the counter where it succeeds
@@ -26,3 +29,18 @@ module _ {X : Type 0} where
   -- the strict store that a session shows: its counter has the raises left that lead to the greatest generation
   abbrev pub strictly_shown : (greatest : ℕ) → SessionState X → StrictStore X
   strictly_shown greatest s = record { store = shown s; left = greatest - s.arena.counter }
+
+  -- each command has its reply, and none tells of a wrap
+  pub record RepliesToEach (commands : List (Command X)) (replies : List (Reply X)) : Type 0 where
+    pub whole : length replies ≡ length commands
+    pub quiet : TellsOfNoWrap replies
+
+  -- a strict session before a call and after it. Before it, its arena is one that the stack can have, and its counter at most
+  -- the greatest generation; where generations count, it was sound, and the pointers of its entries begin a history. After it,
+  -- where they count, it is sound
+  pub record StaysStrict (kind : StackKind) (generations : Generations) (s t : SessionState X) : Type 0 where
+    pub arena : IsArenaOver kind s.arena
+    pub within : s.arena.counter ≤ generations.greatest
+    pub was_sound : generations.counting ≡ true → IsSound s
+    pub begun : generations.counting ≡ true → Fits (begun_with (keys s.arena.slots)) s.arena
+    pub sound : generations.counting ≡ true → IsSound t

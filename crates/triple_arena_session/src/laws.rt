@@ -10,14 +10,14 @@ ghost use Rattle.triple_arena_commands.specs.declared.reply.Reply.{Reply};
 ghost use Rattle.triple_arena_commands.specs.declared.reply.Reply.TheVariants.{Exhausted};
 ghost use Rattle.triple_arena_commands.specs.ReplyText.{tells_of_wrap};
 ghost use Rattle.triple_arena_commands.specs.Runs.{IsRun, TellsOfNoWrap};
-ghost use Rattle.triple_arena_commands.specs.NameStore.{Store, new_store, IsStoreStep};
-ghost use Rattle.triple_arena_commands.specs.StoreRuns.{is_named, is_no_memory, without_wrap, replies_with_memory, without_compactions, replies_without_compactions};
+ghost use Rattle.triple_arena_commands.specs.NameStore.{new_store, IsStoreStep};
+ghost use Rattle.triple_arena_commands.specs.StoreRuns.{is_named, is_no_memory, replies_with_memory, without_compactions, replies_without_compactions};
 ghost use Rattle.triple_arena_commands.specs.StrictStore.{tells_exhausted, IsStrictStoreStep};
 ghost use Rattle.triple_arena_session.specs.SessionState.{SessionState};
 ghost use Rattle.triple_arena_session.specs.SessionRun.{IsStep};
 ghost use Rattle.triple_arena_session.specs.SessionCalls.{calls_of, calls_in, KeepsHistories};
 ghost use Rattle.triple_arena_session.specs.Shown.{shown, IsSound, IsArenaOver};
-ghost use Rattle.triple_arena_session.specs.StoreRun.{EndsAsStore};
+ghost use Rattle.triple_arena_session.specs.StoreRun.{EndsAsStore, StepsAsStore};
 ghost use Rattle.triple_arena_session.specs.StrictSession.{IsStrictSessionStep, strictly_shown};
 ghost use Rattle.triple_arena_session.specs.KindRun.{greatest, first_session};
 ghost use Rattle.triple_arena_session.specs.ElevenCommands.{eleven_commands, eleven_replies, nine_replies, model_replies};
@@ -31,40 +31,19 @@ pub use triple_arena_commands::laws::{
 use triple_arena_ptr::Ptr;
 use triple_arena_stack::NonZeroInxGenericStack;
 
-/// A step of a session is one of the store that it shows, where the generation counts, the session is
-/// sound, its arena is as every arena over the stack is, and the reply tells of no wrap. All this holds
-/// after it too. Where the reply tells of a wrap, it is the store's, its bool aside. No reply is
-/// `Exhausted`.
+/// A step of a session, whose arena is as every arena over the stack is, is one of the store that it shows
+/// (`store`), where the generation counts, the session is sound, and the reply tells of no wrap. The session is
+/// sound after it too (`sound`). Where the reply tells of a wrap, it is the store's, its bool aside (`at_wrap`).
+/// No reply is `Exhausted`.
 ///
-/// Of any session, sound or not, the arena stays as every arena over the stack is; and where the
+/// Of any session, sound or not, the arena stays as every arena over the stack is (`arena`); and where the
 /// generation counts and the reply tells of no wrap, the calls on the arena take each history that fits
-/// it to one that fits.
+/// it to one that fits (`calls`).
 pub fn session_steps_as_store<P: Ptr, X, S: NonZeroInxGenericStack<ArenaSlot<P, Node<X, P>>>>()
-    ensures store { P.Gen.generations.counting ≡ true
-        → (s t : SessionState X) (command : Command X) (reply : Reply X)
-        → IsArenaOver S.kind s.arena → IsSound s
-        → IsStep S.kind S.has_memory P.Gen.generations s command reply t
-        → tells_of_wrap reply ≡ false → IsStoreStep (shown s) command reply (shown t) }
-    ensures sound { P.Gen.generations.counting ≡ true
-        → (s t : SessionState X) (command : Command X) (reply : Reply X)
-        → IsArenaOver S.kind s.arena → IsSound s
-        → IsStep S.kind S.has_memory P.Gen.generations s command reply t
-        → tells_of_wrap reply ≡ false → IsArenaOver S.kind t.arena × IsSound t }
-    ensures calls { P.Gen.generations.counting ≡ true
-        → (s t : SessionState X) (command : Command X) (reply : Reply X)
+    ensures steps { (s t : SessionState X) (command : Command X) (reply : Reply X)
         → IsArenaOver S.kind s.arena
         → IsStep S.kind S.has_memory P.Gen.generations s command reply t
-        → tells_of_wrap reply ≡ false
-        → Continues Fits s.arena (calls_of s command reply) t.arena }
-    ensures arena { (s t : SessionState X) (command : Command X) (reply : Reply X)
-        → IsArenaOver S.kind s.arena
-        → IsStep S.kind S.has_memory P.Gen.generations s command reply t
-        → IsArenaOver S.kind t.arena }
-    ensures at_wrap { P.Gen.generations.counting ≡ true
-        → (s t : SessionState X) (command : Command X) (reply : Reply X)
-        → IsArenaOver S.kind s.arena → IsSound s
-        → IsStep S.kind S.has_memory P.Gen.generations s command reply t
-        → (after : Store X) × IsStoreStep (shown s) command (without_wrap reply) after }
+        → StepsAsStore S.kind P.Gen.generations s command reply t }
     ensures never { (s t : SessionState X) (command : Command X)
         → IsStep S.kind S.has_memory P.Gen.generations s command Exhausted t → ⊥ }
 {}
@@ -116,10 +95,10 @@ pub fn session_runs_keep_histories<P: Ptr, X, S: NonZeroInxGenericStack<ArenaSlo
 
 /// A step of a strict session is one of the strict store that it shows, where the generation counts,
 /// the session is sound, its arena is as every arena over the stack is, and its counter is at most the
-/// greatest generation: so it is of every strict session, as the clauses `was_sound`, `arena` and `within`
-/// of its calls say. All this holds after it too, and no reply tells of a wrap. Whether it is sound or not,
+/// greatest generation: so it is of every strict session, as `was_sound`, `arena` and `within` of the clauses
+/// `stays` of its calls say. All this holds after it too, and no reply tells of a wrap. Whether it is sound or not,
 /// and with any counter, the calls on the arena take each history that fits it to one that fits, so that no
-/// pointer is given that such a history has. One fits every strict session, as the clauses `begun` say.
+/// pointer is given that such a history has. One fits every strict session, as `begun` of these says.
 pub fn strict_session_steps_as_store<
     P: Ptr,
     X,

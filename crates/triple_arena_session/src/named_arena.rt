@@ -7,7 +7,7 @@ ghost use Rattle.triple_arena_traits.specs.Items.{item};
 ghost use Rattle.triple_arena_traits.specs.ArenaState.{arena_len, capacity, map_values};
 ghost use Rattle.triple_arena_traits.specs.Histories.{AreDistinct};
 ghost use Rattle.triple_arena_session.specs.SessionState.{new_session, node_of, link_name, link_pointer};
-ghost use Rattle.triple_arena_session.specs.SessionRun.{IsStep, refusal};
+ghost use Rattle.triple_arena_session.specs.SessionRun.{IsStep, refusal, refused_reply};
 ghost use Rattle.triple_arena_session.specs.Shown.{IsSound};
 ghost use Rattle.triple_arena_session.specs.StrictSession.{raises_counter, is_refused};
 ghost use Rattle.triple_arena_session.specs.SessionLayout.{refuses};
@@ -125,10 +125,9 @@ impl<
         let Some(target) = self.link_pointer(link) else {
             return Reply::BadName;
         };
-        match self.refusal() {
-            Some(ReallocationError::BeyondMaxCapacity) => return Reply::BeyondMaxCapacity,
-            Some(ReallocationError::AllocError) => return Reply::NoMemory,
-            None => {}
+        // Asked before the table makes room, since nothing is to change then.
+        if let Some(why) = self.refusal() {
+            return refused_reply(why);
         }
         let Ok(()) = self.table.make_room() else {
             return Reply::NoMemory;
@@ -275,8 +274,7 @@ impl<
         let _capacity = self.arena.capacity();
         match self.arena.reallocate_min_capacity(count) {
             Ok(()) => Reply::Done,
-            Err(ReallocationError::BeyondMaxCapacity) => Reply::BeyondMaxCapacity,
-            Err(ReallocationError::AllocError) => Reply::NoMemory,
+            Err(why) => refused_reply(why),
         }
     }
 
@@ -346,5 +344,15 @@ impl<
             Some(target) if distinct => Some(target),
             _ => self.table.name(p),
         }
+    }
+}
+
+// The reply where the arena can't have so many entries, or memory was refused.
+fn refused_reply<X>(why: ReallocationError) -> Reply<X>
+    ensures { result ≡ refused_reply why }
+{
+    match why {
+        ReallocationError::BeyondMaxCapacity => Reply::BeyondMaxCapacity,
+        ReallocationError::AllocError => Reply::NoMemory,
     }
 }

@@ -1,6 +1,6 @@
 //! Sessions: commands that speak of entries by name.
 
-ghost use Rattle.std.specs.Prelude.{◌≡◌, ◌≢◌, ℕ, ◌≤◌, List, [], ◌∷◌, ◌++◌, IfOk, OnOk, OnErr, IsOk, true, false, length, take};
+ghost use Rattle.std.specs.Prelude.{◌≡◌, ◌≢◌, ◌≤◌, [], IfOk, OnOk, OnErr, IsOk, true, false, length, take};
 ghost use Rattle.std.specs.List.{list_all, list_any};
 ghost use Rattle.triple_arena_ptr.specs.Numbers.{greatest_index, first_generation};
 ghost use Rattle.triple_arena_stack.specs.StackKind.{new_room, new_limit, made_room, made_limit, CanHold, TakesNoMemory};
@@ -8,15 +8,14 @@ ghost use Rattle.triple_arena_traits.specs.ArenaState.{new_arena, map_values};
 ghost use Rattle.triple_arena_traits.specs.Histories.{Fits, Continues};
 ghost use Rattle.triple_arena_commands.specs.declared.reply.Reply.TheVariants.{Exhausted};
 ghost use Rattle.triple_arena_commands.specs.ReplyText.{tells_of_wrap};
-ghost use Rattle.triple_arena_commands.specs.Runs.{IsRun, TellsOfNoWrap, RunsToWrap};
+ghost use Rattle.triple_arena_commands.specs.Runs.{RunsToWrap};
 ghost use Rattle.triple_arena_commands.specs.NameStore.{Store, new_store, IsStoreStep};
 ghost use Rattle.triple_arena_commands.specs.StoreRuns.{is_named, is_no_memory, without_wrap, AnswersAsStore, replies_with_memory, without_compactions, replies_without_compactions};
-ghost use Rattle.triple_arena_commands.specs.StrictStore.{tells_exhausted};
 ghost use Rattle.triple_arena_session.specs.SessionState.{SessionState, node_of, new_session};
 ghost use Rattle.triple_arena_session.specs.SessionRun.{IsStep};
-ghost use Rattle.triple_arena_session.specs.SessionCalls.{calls_of, KeepsHistories};
+ghost use Rattle.triple_arena_session.specs.SessionCalls.{calls_of, RunGoesOn};
 ghost use Rattle.triple_arena_session.specs.Shown.{shown, IsSound, IsArenaOver};
-ghost use Rattle.triple_arena_session.specs.StoreRun.{EndsAsStore};
+ghost use Rattle.triple_arena_session.specs.StoreRun.{EndsSoundly};
 
 use crate::node::Node;
 use crate::session_body::SessionBody;
@@ -130,16 +129,20 @@ impl<P: Ptr, X: Copy, S: NonZeroInxGenericStack<ArenaSlot<P, Node<X, P>>>> Sessi
         X: Debug,
         ensures step { IsStep S.kind S.has_memory P.Gen.generations
             self.old command result self.new }
+
+        // Of a sound session, by the store that it shows.
         ensures store { P.Gen.generations.counting ≡ true → IsSound self.old
             → tells_of_wrap result ≡ false
             → IsStoreStep (shown self.old) command result (shown self.new) }
         ensures sound { P.Gen.generations.counting ≡ true → IsSound self.old
             → tells_of_wrap result ≡ false
             → IsSound self.new }
-        ensures calls { P.Gen.generations.counting ≡ true → tells_of_wrap result ≡ false
-            → Continues Fits self.old.arena (calls_of self.old command result) self.new.arena }
         ensures at_wrap { P.Gen.generations.counting ≡ true → IsSound self.old
             → (after : Store X) × IsStoreStep (shown self.old) command (without_wrap result) after }
+
+        // Of any session.
+        ensures calls { P.Gen.generations.counting ≡ true → tells_of_wrap result ≡ false
+            → Continues Fits self.old.arena (calls_of self.old command result) self.new.arena }
         ensures never { result ≢ Exhausted }
         ensures arena { IsArenaOver S.kind self.old.arena }
     {
@@ -153,54 +156,45 @@ impl<P: Ptr, X: Copy, S: NonZeroInxGenericStack<ArenaSlot<P, Node<X, P>>>> Sessi
     /// There is room for all replies first: where memory for it is refused, nothing is done. For no
     /// commands none is asked for.
     ///
-    /// A sound session answers as the store of names that it shows. Where no reply tells of a wrap,
-    /// it shows what the store becomes, and is sound. Where the last one does, so it was before that
-    /// step, and its reply is the store's too, its bool aside (`at_wrap`). Of each front of the commands
-    /// and replies there is what stood after it (`fronts`), and as long as it tells of no wrap each
-    /// history that fits the arena goes on, sound or not, as the law `session_runs_keep_histories` says
-    /// of every list of steps: from an arena without entries no pointer was given twice by then. Of
-    /// named commands, which are all but `Capacity`, `Reserve` and `Show`, and with no `NoMemory` among
-    /// the replies, compactions change no other reply.
+    /// A sound session answers as the store of names that it shows (`store`). Where no reply tells of a
+    /// wrap, it shows what the store becomes, and is sound. Where the last one does, so it was before that
+    /// step, and its reply is the store's too, its bool aside (`ends`). Of named commands, which are all but
+    /// `Capacity`, `Reserve` and `Show`, and with no `NoMemory` among the replies, compactions change no other
+    /// reply (`unseen`).
+    ///
+    /// Of any session, sound or not, each history that fits the arena goes on as long as no reply tells of a
+    /// wrap, also by each front of the commands and replies (`goes_on`), as the law
+    /// `session_runs_keep_histories` says of every list of steps: from an arena without entries no pointer was
+    /// given twice by then.
     pub fn run(&mut self, commands: &[Command<X>]) -> Result<Vec<Reply<X>>, AllocError>
     where
         X: Debug,
         ensures ran { IfOk result (λ replies.
             RunsToWrap (IsStep S.kind S.has_memory P.Gen.generations)
             self.old commands.now replies.items self.new) }
+
+        // Refused.
         ensures refused { OnErr result (self.new ≡ self.old) }
         ensures succeeds { commands.now ≡ [] → IsOk result }
+
+        // Of a sound session, by the store that it shows.
         ensures store { P.Gen.generations.counting ≡ true → IsSound self.old
             → IfOk result (λ replies.
             AnswersAsStore (shown self.old) (take (length replies.items) commands.now) replies.items) }
-        ensures shows { P.Gen.generations.counting ≡ true → IsSound self.old
-            → IfOk result (λ replies.
-            TellsOfNoWrap replies.items
-            → IsRun IsStoreStep (shown self.old) commands.now replies.items (shown self.new)) }
-        ensures sound { P.Gen.generations.counting ≡ true → IsSound self.old
-            → IfOk result (λ replies.
-            TellsOfNoWrap replies.items → IsSound self.new) }
-        ensures at_wrap { P.Gen.generations.counting ≡ true → IsSound self.old
-            → IfOk result (λ replies.
-            (before : List (Reply X)) (last : Reply X) → replies.items ≡ before ++ last ∷ []
-            → TellsOfNoWrap before
-            → EndsAsStore (IsStep S.kind S.has_memory P.Gen.generations)
-            self.old (take (length replies.items) commands.now) before last self.new) }
-        ensures calls { P.Gen.generations.counting ≡ true → IfOk result (λ replies.
-            KeepsHistories (IsStep S.kind S.has_memory P.Gen.generations)
-            self.old (take (length replies.items) commands.now) replies.items self.new) }
-        ensures fronts { P.Gen.generations.counting ≡ true → IfOk result (λ replies.
-            (count : ℕ) → (after : SessionState X)
-            × IsRun (IsStep S.kind S.has_memory P.Gen.generations)
-            self.old (take count (take (length replies.items) commands.now)) (take count replies.items) after
-            × KeepsHistories (IsStep S.kind S.has_memory P.Gen.generations)
-            self.old (take count (take (length replies.items) commands.now)) (take count replies.items) after) }
+        ensures ends { P.Gen.generations.counting ≡ true → IsSound self.old
+            → IfOk result (λ replies. EndsSoundly (IsStep S.kind S.has_memory P.Gen.generations)
+            self.old commands.now replies.items self.new) }
         ensures unseen { P.Gen.generations.counting ≡ true → IsSound self.old
             → IfOk result (λ replies.
             let ran = take (length replies.items) commands.now in
             list_all is_named ran ≡ true → list_any is_no_memory replies.items ≡ false
             → replies_without_compactions ran replies.items
             ≡ replies_with_memory (shown self.old) (without_compactions ran)) }
-        ensures never { IfOk result (λ replies. list_any tells_exhausted replies.items ≡ false) }
+
+        // Of any session.
+        ensures goes_on { IfOk result (λ replies.
+            RunGoesOn P.Gen.generations (IsStep S.kind S.has_memory P.Gen.generations)
+            self.old (take (length replies.items) commands.now) replies.items self.new) }
         ensures arena { IsArenaOver S.kind self.old.arena }
     {
         self.body.tell_arena_over_stack();

@@ -1,6 +1,6 @@
 //! Strict sessions: sessions that refuse what would wrap the counter of their arena.
 
-ghost use Rattle.std.specs.Prelude.{◌≡◌, ◌-◌, ◌≤◌, ◌↔◌, [], IfOk, OnOk, OnErr, IsOk, true, false, length};
+ghost use Rattle.std.specs.Prelude.{◌≡◌, ◌-◌, ◌≤◌, ◌↔◌, [], IfOk, OnOk, OnErr, IsOk, true, false};
 ghost use Rattle.std.specs.List.{list_all, list_any};
 ghost use Rattle.triple_arena_ptr.specs.Numbers.{greatest_index, first_generation};
 ghost use Rattle.triple_arena_stack.specs.StackKind.{new_room, new_limit, made_room, made_limit, CanHold, TakesNoMemory};
@@ -9,14 +9,14 @@ ghost use Rattle.triple_arena_traits.specs.Walks.{keys};
 ghost use Rattle.triple_arena_traits.specs.Histories.{begun_with, Fits, Continues};
 ghost use Rattle.triple_arena_commands.specs.declared.reply.Reply.TheVariants.{Exhausted};
 ghost use Rattle.triple_arena_commands.specs.ReplyText.{tells_of_wrap};
-ghost use Rattle.triple_arena_commands.specs.Runs.{IsRun, TellsOfNoWrap};
+ghost use Rattle.triple_arena_commands.specs.Runs.{IsRun};
 ghost use Rattle.triple_arena_commands.specs.NameStore.{new_store};
 ghost use Rattle.triple_arena_commands.specs.StoreRuns.{is_named, is_no_memory, replies_with_memory, without_compactions, replies_without_compactions};
 ghost use Rattle.triple_arena_commands.specs.StrictStore.{tells_exhausted, IsStrictStoreStep};
 ghost use Rattle.triple_arena_session.specs.SessionState.{node_of, new_session};
 ghost use Rattle.triple_arena_session.specs.SessionCalls.{calls_of, RunsFreshly};
-ghost use Rattle.triple_arena_session.specs.Shown.{shown, IsSound, IsArenaOver};
-ghost use Rattle.triple_arena_session.specs.StrictSession.{is_refused, IsStrictSessionStep, strictly_shown};
+ghost use Rattle.triple_arena_session.specs.Shown.{shown, IsSound};
+ghost use Rattle.triple_arena_session.specs.StrictSession.{is_refused, IsStrictSessionStep, strictly_shown, RepliesToEach, StaysStrict};
 
 use crate::node::Node;
 use crate::session_body::SessionBody;
@@ -119,78 +119,76 @@ impl<P: Ptr, X: Copy, S: NonZeroInxGenericStack<ArenaSlot<P, Node<X, P>>>> Stric
     /// where there is an entry, before all else. Then nothing changes. No reply tells of a wrap.
     ///
     /// It answers as the strict store of names that the session shows, which then shows what the store
-    /// becomes. The pointers of the entries begin a history (`begun`), and the calls on the arena take each
-    /// history that fits it to one that fits (`history`): so every pointer that was given is new. Of the
-    /// session before it tells what is true of each (`arena`, `within`, `was_sound`), so that the law
+    /// becomes. The pointers of the entries begin a history (`begun` of `stays`), and the calls on the arena take
+    /// each history that fits it to one that fits (`history`): so every pointer that was given is new. Of the
+    /// session before, `stays` tells what is true of each (`arena`, `within`, `was_sound`), so that the law
     /// `strict_session_steps_as_store` can be used of its steps.
     pub fn step(&mut self, command: Command<X>) -> Reply<X>
     where
         X: Debug,
         ensures step { IsStrictSessionStep S.kind S.has_memory P.Gen.generations
             self.old command result self.new }
+        ensures quiet { tells_of_wrap result ≡ false }
+
+        // Refused for want of a raise.
         ensures exhausted { (result ≡ Exhausted)
             ↔ (is_refused P.Gen.generations self.old command ≡ true) }
         ensures unchanged { result ≡ Exhausted → self.new ≡ self.old }
-        ensures quiet { tells_of_wrap result ≡ false }
+
+        // The store that it shows, its histories, and what is true of it before and after.
         ensures store { P.Gen.generations.counting ≡ true → IsStrictStoreStep
             (strictly_shown P.Gen.generations.greatest self.old) command result
             (strictly_shown P.Gen.generations.greatest self.new) }
-        ensures was_sound { P.Gen.generations.counting ≡ true → IsSound self.old }
-        ensures sound { P.Gen.generations.counting ≡ true → IsSound self.new }
         ensures history { P.Gen.generations.counting ≡ true
             → Continues Fits self.old.arena (calls_of self.old command result) self.new.arena }
-        ensures begun { P.Gen.generations.counting ≡ true
-            → Fits (begun_with (keys self.old.arena.slots)) self.old.arena }
-        ensures arena { IsArenaOver S.kind self.old.arena }
-        ensures within { self.old.arena.counter ≤ P.Gen.generations.greatest }
+        ensures stays { StaysStrict S.kind P.Gen.generations self.old self.new }
     {
         self.tell_begun();
         self.body.tell_arena_over_stack();
         self.body.answer(command)
     }
 
-    /// Runs the commands in order, all of them, and gives their replies, one to each.
+    /// Runs the commands in order, all of them, and gives their replies, one to each (`each`).
     ///
     /// There is room for all replies first: where memory for it is refused, nothing is done. For no
     /// commands none is asked for.
     ///
     /// They are answered as by the strict store of names that the session shows, which then shows what the
     /// store becomes. Every pointer that was given is new, as the pointers of the entries begin a history
-    /// (`begun`), and each that fits goes on (`history`). Of named commands, which are all but `Capacity`,
-    /// `Reserve` and `Show`, and with neither `NoMemory` nor `Exhausted` among the replies, compactions
-    /// change no other reply.
+    /// (`begun` of `stays`), and each that fits goes on (`history`). Of named commands, which are all but
+    /// `Capacity`, `Reserve` and `Show`, and with neither `NoMemory` nor `Exhausted` among the replies,
+    /// compactions change no other reply (`unseen`).
     pub fn run(&mut self, commands: &[Command<X>]) -> Result<Vec<Reply<X>>, AllocError>
     where
         X: Debug,
         ensures ran { IfOk result (λ replies.
             IsRun (IsStrictSessionStep S.kind S.has_memory P.Gen.generations)
             self.old commands.now replies.items self.new) }
-        ensures whole { IfOk result (λ replies. length replies.items ≡ length commands.now) }
-        ensures quiet { IfOk result (λ replies. TellsOfNoWrap replies.items) }
+        ensures each { IfOk result (λ replies. RepliesToEach commands.now replies.items) }
+
+        // Refused.
         ensures refused { OnErr result (self.new ≡ self.old) }
         ensures succeeds { commands.now ≡ [] → IsOk result }
+
+        // The store that it shows, its histories, and what is true of it before and after.
         ensures store { P.Gen.generations.counting ≡ true → IfOk result (λ replies.
             IsRun IsStrictStoreStep (strictly_shown P.Gen.generations.greatest self.old)
             commands.now replies.items (strictly_shown P.Gen.generations.greatest self.new)) }
-        ensures was_sound { P.Gen.generations.counting ≡ true → IsSound self.old }
-        ensures sound { P.Gen.generations.counting ≡ true → IsSound self.new }
-        ensures history { P.Gen.generations.counting ≡ true → IfOk result (λ replies.
-            RunsFreshly (IsStrictSessionStep S.kind S.has_memory P.Gen.generations)
-            self.old commands.now replies.items self.new) }
         ensures unseen { P.Gen.generations.counting ≡ true → IfOk result (λ replies.
             list_all is_named commands.now ≡ true → list_any is_no_memory replies.items ≡ false
             → list_any tells_exhausted replies.items ≡ false
             → replies_without_compactions commands.now replies.items
             ≡ replies_with_memory (shown self.old) (without_compactions commands.now)) }
-        ensures begun { P.Gen.generations.counting ≡ true
-            → Fits (begun_with (keys self.old.arena.slots)) self.old.arena }
-        ensures arena { IsArenaOver S.kind self.old.arena }
-        ensures within { self.old.arena.counter ≤ P.Gen.generations.greatest }
+        ensures history { P.Gen.generations.counting ≡ true → IfOk result (λ replies.
+            RunsFreshly (IsStrictSessionStep S.kind S.has_memory P.Gen.generations)
+            self.old commands.now replies.items self.new) }
+        ensures stays { StaysStrict S.kind P.Gen.generations self.old self.new }
     {
         self.tell_begun();
         self.body.tell_arena_over_stack();
         self.body.run_commands(commands)
     }
+
     // Tells that the pointers of the entries of any strict session begin a history, and does nothing.
     pub(crate) fn tell_begun(&self)
         ensures { P.Gen.generations.counting ≡ true

@@ -1,11 +1,8 @@
 //! The run of a text in a strict session.
 
-ghost use Rattle.std.specs.Prelude.{◌≡◌, ◌≤◌, true};
+ghost use Rattle.std.specs.Prelude.{◌≡◌, true};
 ghost use Rattle.std.specs.Io.Buffered.{writer_contents};
-ghost use Rattle.triple_arena_traits.specs.Walks.{keys};
-ghost use Rattle.triple_arena_traits.specs.Histories.{begun_with, Fits};
-ghost use Rattle.triple_arena_session.specs.Shown.{IsSound, IsArenaOver};
-ghost use Rattle.triple_arena_session.specs.StrictSession.{IsStrictSessionStep, strictly_shown};
+ghost use Rattle.triple_arena_session.specs.StrictSession.{IsStrictSessionStep, strictly_shown, StaysStrict};
 ghost use Rattle.triple_arena_session.specs.StrictText.{IsWholeTextRun, IsWholeFlushedRun, IsStrictStoreText};
 
 use crate::node::Node;
@@ -24,8 +21,8 @@ use triple_arena_stack::NonZeroInxGenericStack;
 /// The lines are answered as by the strict store of names that the session shows, and compactions change
 /// no other line, as `StrictSession::run` says. It shows what the store became, where the writer failed by
 /// the first lines. This is said of readers and writers that tell their bytes. Whatever they tell, the session
-/// is sound after the run, however it ended (`sound`): so one text may follow another. The pointers of the
-/// entries begin a history (`begun`), as `StrictSession::step` says.
+/// is sound after the run, however it ended (`sound` of `stays`): so one text may follow another. The pointers
+/// of the entries begin a history (`begun`), as `StrictSession::step` says.
 pub fn run_text_strict<
     P: Ptr,
     S: NonZeroInxGenericStack<ArenaSlot<P, Node<u64, P>>>,
@@ -44,12 +41,7 @@ pub fn run_text_strict<
         → IsStrictStoreText (strictly_shown P.Gen.generations.greatest session.old)
         (strictly_shown P.Gen.generations.greatest session.new)
         (R.remaining input.old) result (W.contents output.old) (W.contents output.new) }
-    ensures was_sound { P.Gen.generations.counting ≡ true → IsSound session.old }
-    ensures sound { P.Gen.generations.counting ≡ true → IsSound session.new }
-    ensures begun { P.Gen.generations.counting ≡ true
-        → Fits (begun_with (keys session.old.arena.slots)) session.old.arena }
-    ensures arena { IsArenaOver S.kind session.old.arena }
-    ensures within { session.old.arena.counter ≤ P.Gen.generations.greatest }
+    ensures stays { StaysStrict S.kind P.Gen.generations session.old session.new }
 {
     session.tell_begun();
     read_and_run(&mut session.body, alloc, input, output)
@@ -80,12 +72,7 @@ pub fn run_text_strict_and_flush<
         → IsStrictStoreText (strictly_shown P.Gen.generations.greatest session.old)
         (strictly_shown P.Gen.generations.greatest session.new)
         (R.remaining input.old) result.0 (writer_contents W.contents output) (W.contents result.1) }
-    ensures was_sound { P.Gen.generations.counting ≡ true → IsSound session.old }
-    ensures sound { P.Gen.generations.counting ≡ true → IsSound session.new }
-    ensures begun { P.Gen.generations.counting ≡ true
-        → Fits (begun_with (keys session.old.arena.slots)) session.old.arena }
-    ensures arena { IsArenaOver S.kind session.old.arena }
-    ensures within { session.old.arena.counter ≤ P.Gen.generations.greatest }
+    ensures stays { StaysStrict S.kind P.Gen.generations session.old session.new }
 {
     session.tell_begun();
     let mut output = output;

@@ -13,6 +13,6 @@ returns-clause-between c =
     let front = IsRun-front (IsStrictSessionStep heap (λ _. ⊥) (counting_to greatest)) c.args.session.now c.run.new.self c.args.commands.now replies.items count ran in (
       front.0,
       front.1,
-      c.strict_session_runs_as_store.ensures.store refl c.args.session.now front.0 _ _ c.run.ensures.arena c.run.ensures.within (c.run.ensures.was_sound refl) front.1,
-      (c.strict_session_runs_as_store.ensures.sound refl c.args.session.now front.0 _ _ c.run.ensures.arena c.run.ensures.within (c.run.ensures.was_sound refl) front.1).2,
+      c.strict_session_runs_as_store.ensures.store refl c.args.session.now front.0 _ _ c.run.ensures.stays.arena c.run.ensures.stays.within (c.run.ensures.stays.was_sound refl) front.1,
+      (c.strict_session_runs_as_store.ensures.sound refl c.args.session.now front.0 _ _ c.run.ensures.stays.arena c.run.ensures.stays.within (c.run.ensures.stays.was_sound refl) front.1).2,
     )) c.run.ensures.ran

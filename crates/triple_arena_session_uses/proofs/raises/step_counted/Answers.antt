@@ -32,5 +32,5 @@ returns-clause-counted c other =
 
 pub returns-clause-exact : goal.returns-clause-exact
 returns-clause-exact c =
-    let within : c.step.new.self.arena.counter ≤ greatest = (c.strict_session_steps_as_store.ensures.sound refl c.args.session.now c.step.new.self c.args.command c.step.result c.step.ensures.arena c.step.ensures.within (c.step.ensures.was_sound refl) c.step.ensures.step).1 in
+    let within : c.step.new.self.arena.counter ≤ greatest = (c.strict_session_steps_as_store.ensures.sound refl c.args.session.now c.step.new.self c.args.command c.step.result c.step.ensures.stays.arena c.step.ensures.stays.within (c.step.ensures.stays.was_sound refl) c.step.ensures.step).1 in
     omega arith

@@ -7,7 +7,7 @@ use Rattle.triple_arena_traits.specs.Reallocation.{grown}
 use Rattle.triple_arena_session.specs.declared.node.Node.{Node}
 use Rattle.triple_arena_session.specs.SessionState.{node_of, link_pointer}
 use Rattle.triple_arena_session.specs.SessionRun.{refusal, insert_answer, insert_unless}
-use Rattle.triple_arena_session.proofs.Shown.{given, next-shown, inserted_grown-shown, arena_wants, table_wants}
+use Rattle.triple_arena_session.proofs.Shown.{given, next-shown, inserted_grown-shown, arena_wants, table_wants, refused_insert}
 use Rattle.triple_arena_session.proofs.named_arena.NamedArena.insert.Goals as goal
 
 pub returns-in-Ok-insert : goal.returns-in-Ok-insert
@@ -15,7 +15,7 @@ returns-in-Ok-insert g c =
     let kind = g.S.NonZeroInxGenericStack.kind in
     let s = c.args.self.now in
     let link : link_pointer s.table c.args.link ≡ Some (option_map g.P.Ptr.numbers c.in-Some.target) = sym c.link_pointer.ensures ∙ ap (option_map (option_map g.P.Ptr.numbers)) c.in-Some.is in
-    let clear : refusal s.arena ≡ None = sym c.in-None.ensures.why in
+    let clear : refusal s.arena ≡ None = sym c.in_default-refusal.ensures.why in
     let node : Node g.row.X.Denot g.row.P.Denot = record { datum = c.args.datum; link = c.in-Some.target } in
     given g.P.Ptr.numbers (g.A.SessionArena.state c.self.inside.arena) c.self.inside.table.items c.self.inside.table.room s c.self.view_is c.in-Ok-insert.p (next_pointer s.arena) false (inserted (grown kind s.arena) (c.args.datum, option_map g.P.Ptr.numbers c.in-Some.target)) c.push.result (g.A.SessionArena.state c.insert.new.self) c.push.new.self.items c.push.new.self.room
     (c.in-Ok-insert.ensures.pointer ∙ next-shown g.P.Ptr.numbers (g.A.SessionArena.state c.self.inside.arena) c.self.inside.table.items c.self.inside.table.room s c.self.view_is)
@@ -29,26 +29,19 @@ pub returns-in-Err : goal.returns-in-Err
 returns-in-Err g c =
     let link : link_pointer c.args.self.now.table c.args.link ≡ Some (option_map g.P.Ptr.numbers c.in-Some.target) = sym c.link_pointer.ensures ∙ ap (option_map (option_map g.P.Ptr.numbers)) c.in-Some.is in
     let full = arena_wants g.P.Ptr.numbers (g.A.SessionArena.state c.self.inside.arena) c.self.inside.table.items c.self.inside.table.room c.args.self.now c.self.view_is g.S.NonZeroInxGenericStack.has_memory _ c.refusal.ensures.greatest c.in-Err.ensures.with_memory c.refusal.ensures.fits (λ place. (c.in-Err.ensures.had_place place).0) (g.A.SessionArena.state c.insert.new.self) c.make_room.new.self.items c.make_room.new.self.room c.in-Err.ensures.refused c.in-Ok.ensures.items c.in-Ok.ensures.grown in
-    inr (ap is_some link, sym c.in-None.ensures.why, inr full)
+    inr (ap is_some link, sym c.in_default-refusal.ensures.why, inr full)
 
 pub returns-in_default : goal.returns-in_default
 returns-in_default g c =
     let link : link_pointer c.args.self.now.table c.args.link ≡ None = sym c.link_pointer.ensures ∙ ap (option_map (option_map g.P.Ptr.numbers)) c.in_default.is in
     sym (ap (insert_answer g.S.NonZeroInxGenericStack.kind g.P.Gen.PtrGen.generations c.args.self.now c.args.datum) link)
 
-pub returns-in-Some-BeyondMaxCapacity : goal.returns-in-Some-BeyondMaxCapacity
-returns-in-Some-BeyondMaxCapacity g c =
+pub returns-in-Some-refusal : goal.returns-in-Some-refusal
+returns-in-Some-refusal g c =
     let link : link_pointer c.args.self.now.table c.args.link ≡ Some (option_map g.P.Ptr.numbers c.in-Some.target) = sym c.link_pointer.ensures ∙ ap (option_map (option_map g.P.Ptr.numbers)) c.in-Some.is in
-    let why : refusal c.args.self.now.arena ≡ Some refused.BeyondMaxCapacity = sym c.in-Some-BeyondMaxCapacity.ensures.why ∙ ap Some c.in-Some-BeyondMaxCapacity.field-0-is in
-    sym (ap (insert_answer g.S.NonZeroInxGenericStack.kind g.P.Gen.PtrGen.generations c.args.self.now c.args.datum) link ∙ ap (λ w. insert_unless g.S.NonZeroInxGenericStack.kind g.P.Gen.PtrGen.generations w c.args.self.now c.args.datum (option_map g.P.Ptr.numbers c.in-Some.target)) why)
-
-pub returns-in-Some-AllocError : goal.returns-in-Some-AllocError
-returns-in-Some-AllocError g c =
-    let link : link_pointer c.args.self.now.table c.args.link ≡ Some (option_map g.P.Ptr.numbers c.in-Some.target) = sym c.link_pointer.ensures ∙ ap (option_map (option_map g.P.Ptr.numbers)) c.in-Some.is in
-    let why : refusal c.args.self.now.arena ≡ Some refused.AllocError = sym c.in-Some-AllocError.ensures.why ∙ ap Some c.in-Some-AllocError.field-0-is in
-    inl (sym (ap (insert_answer g.S.NonZeroInxGenericStack.kind g.P.Gen.PtrGen.generations c.args.self.now c.args.datum) link ∙ ap (λ w. insert_unless g.S.NonZeroInxGenericStack.kind g.P.Gen.PtrGen.generations w c.args.self.now c.args.datum (option_map g.P.Ptr.numbers c.in-Some.target)) why))
+    refused_insert g.S.NonZeroInxGenericStack.kind g.S.NonZeroInxGenericStack.has_memory g.P.Gen.PtrGen.generations c.args.self.now c.args.datum c.args.link (option_map g.P.Ptr.numbers c.in-Some.target) c.in-Some-refusal.why c.refused_reply.result link (sym c.in-Some-refusal.ensures.why) c.refused_reply.ensures
 
 pub returns-in_default-make_room : goal.returns-in_default-make_room
 returns-in_default-make_room g c =
     let link : link_pointer c.args.self.now.table c.args.link ≡ Some (option_map g.P.Ptr.numbers c.in-Some.target) = sym c.link_pointer.ensures ∙ ap (option_map (option_map g.P.Ptr.numbers)) c.in-Some.is in
-    inr (ap is_some link, sym c.in-None.ensures.why, inl (table_wants g.P.Ptr.numbers (g.A.SessionArena.state c.self.inside.arena) c.self.inside.table.items c.self.inside.table.room c.args.self.now c.self.view_is c.make_room.new.self.items c.make_room.new.self.room c.in_default-make_room.ensures.refused.0 (ap (λ t. t.items) c.in_default-make_room.ensures.refused.1) (ap (λ t. t.room) c.in_default-make_room.ensures.refused.1)))
+    inr (ap is_some link, sym c.in_default-refusal.ensures.why, inl (table_wants g.P.Ptr.numbers (g.A.SessionArena.state c.self.inside.arena) c.self.inside.table.items c.self.inside.table.room c.args.self.now c.self.view_is c.make_room.new.self.items c.make_room.new.self.room c.in_default-make_room.ensures.refused.0 (ap (λ t. t.items) c.in_default-make_room.ensures.refused.1) (ap (λ t. t.room) c.in_default-make_room.ensures.refused.1)))

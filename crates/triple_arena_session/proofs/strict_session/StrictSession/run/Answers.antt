@@ -1,4 +1,3 @@
-use Rattle.std.proofs.Common.{length, take}
 use Rattle.std.proofs.lemmas.Result.{IfOk-weaker}
 use Rattle.triple_arena_session.proofs.Soundness.{sound_over}
 use Rattle.triple_arena_session.proofs.StoreRunLaws.{count_if_quiet}
@@ -9,15 +8,15 @@ pub returns-clause-ran : goal.returns-clause-ran
 returns-clause-ran g c =
     rw (← c.self.view_is) (IfOk-weaker c.run_commands.result _ _ (λ replies ran. StrictRunsAll g.S.NonZeroInxGenericStack.kind g.S.NonZeroInxGenericStack.has_memory g.P.Gen.PtrGen.generations c.self.inside.body c.args.commands.now replies.items c.run_commands.new.self ran) c.run_commands.ensures.ran)
 
-pub returns-clause-whole : goal.returns-clause-whole
-returns-clause-whole g c =
-    IfOk-weaker c.run_commands.result _ _ (λ replies ran. count_if_quiet c.args.commands.now replies.items
-    (StrictRunIsQuiet g.S.NonZeroInxGenericStack.kind g.S.NonZeroInxGenericStack.has_memory g.P.Gen.PtrGen.generations c.self.inside.body (take (length replies.items) c.args.commands.now) replies.items c.run_commands.new.self ran.0) ran.1) c.run_commands.ensures.ran
-
-pub returns-clause-quiet : goal.returns-clause-quiet
-returns-clause-quiet g c =
-    IfOk-weaker c.run_commands.result _ _ (λ replies ran. StrictRunIsQuiet g.S.NonZeroInxGenericStack.kind g.S.NonZeroInxGenericStack.has_memory g.P.Gen.PtrGen.generations c.self.inside.body c.args.commands.now replies.items c.run_commands.new.self
-    (StrictRunsAll g.S.NonZeroInxGenericStack.kind g.S.NonZeroInxGenericStack.has_memory g.P.Gen.PtrGen.generations c.self.inside.body c.args.commands.now replies.items c.run_commands.new.self ran)) c.run_commands.ensures.ran
+pub returns-clause-each : goal.returns-clause-each
+returns-clause-each g c =
+    IfOk-weaker c.run_commands.result _ _ (λ replies ran.
+    let kind = g.S.NonZeroInxGenericStack.kind in
+    let has_memory = g.S.NonZeroInxGenericStack.has_memory in
+    let generations = g.P.Gen.PtrGen.generations in
+    let run = StrictRunsAll kind has_memory generations c.self.inside.body c.args.commands.now replies.items c.run_commands.new.self ran in
+    let quiet = StrictRunIsQuiet kind has_memory generations c.self.inside.body c.args.commands.now replies.items c.run_commands.new.self run in
+    record { whole = count_if_quiet c.args.commands.now replies.items quiet ran.1; quiet = quiet }) c.run_commands.ensures.ran
 
 pub returns-clause-store : goal.returns-clause-store
 returns-clause-store g c =
@@ -29,9 +28,15 @@ pub invariant_of-self : goal.invariant_of-self
 invariant_of-self g c counts =
     StrictRunKeepsSound g.S.NonZeroInxGenericStack.kind g.S.NonZeroInxGenericStack.has_memory g.P.Gen.PtrGen.generations counts c.self.inside.body c.tell_arena_over_stack.ensures.over c.tell_arena_over_stack.ensures.within (c.self.invariant counts) c.args.commands.now c.run_commands.result (λ replies. replies.items) c.run_commands.new.self c.run_commands.ensures.ran c.run_commands.ensures.refused
 
-pub returns-clause-sound : goal.returns-clause-sound
-returns-clause-sound g c counts =
-    StrictRunKeepsSound g.S.NonZeroInxGenericStack.kind g.S.NonZeroInxGenericStack.has_memory g.P.Gen.PtrGen.generations counts c.self.inside.body c.tell_arena_over_stack.ensures.over c.tell_arena_over_stack.ensures.within (c.self.invariant counts) c.args.commands.now c.run_commands.result (λ replies. replies.items) c.run_commands.new.self c.run_commands.ensures.ran c.run_commands.ensures.refused
+pub returns-clause-stays : goal.returns-clause-stays
+returns-clause-stays g c =
+    rw (← c.self.view_is) (record {
+      arena = c.tell_arena_over_stack.ensures.over;
+      within = c.tell_arena_over_stack.ensures.within;
+      was_sound = c.self.invariant;
+      begun = rw c.self.view_is c.tell_begun.ensures;
+      sound = invariant_of-self g c;
+    })
 
 pub returns-clause-history : goal.returns-clause-history
 returns-clause-history g c =

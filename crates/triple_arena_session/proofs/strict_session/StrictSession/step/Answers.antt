@@ -20,9 +20,15 @@ pub invariant_of-self : goal.invariant_of-self
 invariant_of-self g c counts =
     StrictStepKeepsSound g.S.NonZeroInxGenericStack.kind g.S.NonZeroInxGenericStack.has_memory g.P.Gen.PtrGen.generations counts c.self.inside.body c.tell_arena_over_stack.ensures.over c.tell_arena_over_stack.ensures.within (c.self.invariant counts) c.args.command c.answer.result c.answer.new.self c.answer.ensures
 
-pub returns-clause-sound : goal.returns-clause-sound
-returns-clause-sound g c counts =
-    StrictStepKeepsSound g.S.NonZeroInxGenericStack.kind g.S.NonZeroInxGenericStack.has_memory g.P.Gen.PtrGen.generations counts c.self.inside.body c.tell_arena_over_stack.ensures.over c.tell_arena_over_stack.ensures.within (c.self.invariant counts) c.args.command c.answer.result c.answer.new.self c.answer.ensures
+pub returns-clause-stays : goal.returns-clause-stays
+returns-clause-stays g c =
+    rw (← c.self.view_is) (record {
+      arena = c.tell_arena_over_stack.ensures.over;
+      within = c.tell_arena_over_stack.ensures.within;
+      was_sound = c.self.invariant;
+      begun = rw c.self.view_is c.tell_begun.ensures;
+      sound = invariant_of-self g c;
+    })
 
 pub returns-clause-history : goal.returns-clause-history
 returns-clause-history g c =

@@ -1,6 +1,6 @@
 //! What is saved and loaded: texts, an arena, a direct arena, and a strict one.
 
-use crate::files::{ARENA, DIRECT, Held, TEXTS};
+use crate::files::{ARENA, DIRECT, Held, STRICT, TEXTS};
 use std::alloc::Global;
 use triple_arena::{
     Arena, ArenaInsertTrait, ArenaTrait, NonZeroInxGenericStack, NonZeroInxVec, P3, Ptr,
@@ -256,7 +256,11 @@ pub fn save_each(alloc: Global, report: &mut Report) {
         "a direct arena",
         saves::<DirectArena<P3, u8>>(alloc, DIRECT),
     );
-    report.note("save", "a strict arena", saves_strictly::<P3>(alloc, ARENA));
+    report.note(
+        "save",
+        "a strict arena",
+        saves_strictly::<P3>(alloc, STRICT),
+    );
 }
 
 /// Loads each.
@@ -269,5 +273,9 @@ pub fn load_each(alloc: Global, report: &mut Report) {
         "a direct arena",
         loads::<DirectArena<P3, u8>>(alloc, DIRECT),
     );
-    report.note("load", "a strict arena", loads_strictly::<P3>(alloc, ARENA));
+    report.note(
+        "load",
+        "a strict arena",
+        loads_strictly::<P3>(alloc, STRICT),
+    );
 }

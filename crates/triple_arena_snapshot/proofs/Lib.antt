@@ -7,5 +7,7 @@ pub mod FreeLists
 pub mod LinkBytes
 pub mod ArenaParts
 pub mod Writes
+pub mod ShapeBytes
 pub mod Loads
+pub mod MapEntries
 mod StrictFiles

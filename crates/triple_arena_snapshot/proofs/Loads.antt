@@ -1,10 +1,11 @@
 -- Files that a reader gave, by what is read of their bytes.
-use Rattle.std.proofs.Common.{◌≡◌, ◌≢◌, ℕ, ◌^◌, ◌<◌, ◌++◌, ◌∷◌, List, Option, None, Some, IfSome, Result, Ok, Err, length, get_or, sym, ap, ◌∙◌, subst, inl, inr}
+use Rattle.std.proofs.Common.{◌≡◌, ◌≢◌, ℕ, ◌^◌, ◌<◌, ◌≤◌, ◌++◌, List, Option, None, Some, IfSome, Result, Ok, Err, length, sym, ap, ◌∙◌, subst, inl, inr}
 use Rattle.std.specs.Prelude.{IsErr, ◌⊎◌}
 use Rattle.triple_arena_snapshot.specs.declared.fault.LoadError.{LoadError}
 use Rattle.triple_arena_snapshot.specs.declared.fault.LoadError.TheVariants as errors
 use Rattle.triple_arena_snapshot.specs.Coding.{Coding, Reading}
 use Rattle.triple_arena_snapshot.specs.Files.{file_of, file_reading, Loads, LoadsFrom}
+use Rattle.triple_arena_snapshot.specs.laws.ChecksumLaws.{Bytes}
 use Rattle.triple_arena_snapshot.specs.laws.ChangeLaws.{changed_is_refused}
 use Rattle.triple_arena_snapshot.specs.laws.FileLaws.{few_in_file, file_again}
 
@@ -35,24 +36,25 @@ known_read content result reading None items all h = tt
 known_read content result reading (Some bytes) items all h = subst (λ (xs : List ℕ). LoadsFrom content result (reading xs)) all (from_reader content result (reading items) h)
 
 -- what was saved is loaded again
-pub loaded_again : {K X : Type 0} (c : Coding K) (content : X → K) (result : Result X LoadError) (items : List ℕ) → length items < 2 ^ 64
-    → Loads content result (file_reading c.decoding items) → (k : K) → c.fits k → items ≡ file_of (c.encoding k) → Loads content result (Ok k)
-loaded_again c content result items few h k fits e =
-    subst (λ read. Loads content result read) (ap (file_reading c.decoding) e ∙ file_again c k (few_in_file (c.encoding k) items e few) fits) h
+pub loaded_again : {K X : Type 0} (c : Coding K) (content : X → K) (result : Result X LoadError) (shape items : List ℕ) → length items < 2 ^ 64
+    → Loads content result (file_reading shape c.decoding items) → (k : K) → c.fits k → items ≡ file_of shape (c.encoding k) → Loads content result (Ok k)
+loaded_again c content result shape items few h k fits e =
+    let both = few_in_file shape (c.encoding k) items e few in
+    subst (λ read. Loads content result read) (ap (file_reading shape c.decoding) e ∙ file_again c shape k both.0 both.1 fits) h
 
-pub known_again : {K X : Type 0} (c : Coding K) (content : X → K) (result : Result X LoadError) (known : Option (List ℕ)) (items : List ℕ) → length items < 2 ^ 64
-    → IfSome known (λ xs. items ≡ xs) → Loads content result (file_reading c.decoding items) → (k : K) → c.fits k → known ≡ Some (file_of (c.encoding k)) → LoadsFrom content result (Ok k)
-known_again c content result known items few all h k fits is =
-    from_reader content result (Ok k) (loaded_again c content result items few h k fits (known_bytes known items (file_of (c.encoding k)) all is))
+pub known_again : {K X : Type 0} (c : Coding K) (content : X → K) (result : Result X LoadError) (shape : List ℕ) (known : Option (List ℕ)) (items : List ℕ) → length items < 2 ^ 64
+    → IfSome known (λ xs. items ≡ xs) → Loads content result (file_reading shape c.decoding items) → (k : K) → c.fits k → known ≡ Some (file_of shape (c.encoding k)) → LoadsFrom content result (Ok k)
+known_again c content result shape known items few all h k fits is =
+    from_reader content result (Ok k) (loaded_again c content result shape items few h k fits (known_bytes known items (file_of shape (c.encoding k)) all is))
 
--- a file of which one byte was changed isn't loaded
-pub known_change : {K X : Type 0} (c : Coding K) (content : X → K) (result : Result X LoadError) (known : Option (List ℕ)) (items : List ℕ) → ((i : ℕ) → get_or items i 0 < 256)
-    → IfSome known (λ xs. items ≡ xs) → Loads content result (file_reading c.decoding items) → (saved front rest : List ℕ) (b x : ℕ) → b < 256 → b ≢ x
-    → file_of saved ≡ front ++ b ∷ rest → known ≡ Some (front ++ x ∷ rest) → IsErr result
-known_change c content result known items small all h saved front rest b x least apart e is =
-    let same : items ≡ front ++ x ∷ rest = known_bytes known items (front ++ x ∷ rest) all is in
-    changed_is_refused c.decoding content result saved front rest b x (subst (λ (xs : List ℕ). (i : ℕ) → get_or xs i 0 < 256) same small) least apart e
-    (subst (λ xs. Loads content result (file_reading c.decoding xs)) same h)
+-- a file of which up to four bytes side by side were changed isn't loaded
+pub known_change : {K X : Type 0} (c : Coding K) (content : X → K) (result : Result X LoadError) (shape : List ℕ) (known : Option (List ℕ)) (items : List ℕ) → Bytes items
+    → IfSome known (λ xs. items ≡ xs) → Loads content result (file_reading shape c.decoding items) → (kind saved front burst other rest : List ℕ) → Bytes burst
+    → length burst ≡ length other → length burst ≤ 4 → burst ≢ other → file_of kind saved ≡ front ++ (burst ++ rest) → known ≡ Some (front ++ (other ++ rest)) → IsErr result
+known_change c content result shape known items small all h kind saved front burst other rest bytes long few apart e is =
+    let same : items ≡ front ++ (other ++ rest) = known_bytes known items (front ++ (other ++ rest)) all is in
+    changed_is_refused shape c.decoding content result kind saved front burst other rest (subst Bytes same small) bytes long few apart e
+    (subst (λ xs. Loads content result (file_reading shape c.decoding xs)) same h)
 
 -- bytes that are known by the vector that has them
 pub known_vec : (known : Option (List ℕ)) (vec items : List ℕ) → items ≡ vec → IfSome known (λ xs. vec ≡ xs) → IfSome known (λ xs. items ≡ xs)

@@ -4,7 +4,7 @@ use Rattle.std.proofs.lemmas.List.{at_drop_more}
 use Rattle.triple_arena_snapshot.specs.declared.fault.Fault.{Fault}
 use Rattle.triple_arena_snapshot.specs.declared.fault.Fault.TheVariants.{Cut}
 use Rattle.triple_arena_snapshot.specs.Coding.{Reading}
-use Rattle.triple_arena_snapshot.specs.Files.{behind}
+use Rattle.triple_arena_snapshot.specs.Marks.{behind}
 
 pub cut_short : (marked : List ℕ) (i : ℕ) (fault : Fault) (rest : List ℕ) (total : Reading (List ℕ)) → i < length marked → length rest < 1
     → behind (drop i marked) fault rest ≡ total → total ≡ Err (Cut, 0)

@@ -1,5 +1,6 @@
 -- What the file of a strict arena has, by what the arena has.
-use Rattle.std.proofs.Common.{◌≡◌, ℕ, ◌≤◌, ◌+◌, nat_lt, ◌&&◌, Bool, true, false, List, [], ◌∷◌, map, Option, Some, None, IfSome, Result, Ok, Err, OnOk, refl, sym, ap, ◌∙◌, arith}
+use Rattle.std.proofs.Common.{◌≡◌, ℕ, ◌≤◌, ◌+◌, nat_lt, ◌&&◌, Bool, true, false, List, [], ◌∷◌, map, Option, Some, None, Result, Ok, Err, OnOk, length, refl, sym, ap, ◌∙◌, arith}
+use Rattle.std.specs.Prelude.{IfOk}
 use Rattle.std.specs.List.{list_any}
 use Rattle.std.specs.Option.{option_map}
 use Rattle.triple_arena_ptr.specs.Pointers.{Pointer}
@@ -9,9 +10,10 @@ use Rattle.triple_arena_traits.specs.Walks.{entries_from, keys_of, keys}
 use Rattle.triple_arena_traits.specs.laws.LookUpLaws.{found_mapped}
 use Rattle.triple_arena_direct.specs.Gone.{IsUpToCounter, IsGoneForGood, is_any_past}
 use Rattle.triple_arena_direct.specs.laws.UpToCounterLaws.{up_to-none}
-use Rattle.triple_arena_snapshot.specs.StrictFiles.{up_to_counter}
+use Rattle.triple_arena_snapshot.specs.StrictFiles.{checked}
 use Rattle.triple_arena_snapshot.specs.declared.fault.Fault.TheVariants.{Counter}
-use Rattle.triple_arena_snapshot.specs.Coding.{Reading}
+use Rattle.triple_arena_snapshot.specs.Coding.{Decoded}
+use Rattle.triple_arena_snapshot.specs.declared.fault.LoadError.{LoadError}
 use Rattle.triple_arena_snapshot.specs.ArenaCodings.{arena_content}
 use Rattle.triple_arena_snapshot.specs.Files.{LoadsFrom}
 
@@ -25,28 +27,21 @@ mapped_from f at (Some e ∷ xs) = ap (λ ks. (at, e.0) ∷ ks) (mapped_from f (
 past_content : {T K : Type 0} (f : T → K) (s : ArenaState T) → is_any_past s.counter (map (option_map (map_entry f)) s.slots) ≡ is_any_past s.counter s.slots
 past_content f s = ap (list_any (λ (p : Pointer). nat_lt s.counter p.1)) (mapped_from f 1 s.slots)
 
--- what was loaded, where that is known
-pub ok_is : {A E : Type 0} (x y : A) (r : Result A E) → r ≡ Ok x → r ≡ Ok y → x ≡ y
-ok_is x y r is is_too = cc
+-- what was loaded of what was saved has its content
+pub loaded_has : {X K : Type 0} (content : X → K) (result : Result X LoadError) (k : K) (Holds : X → Type 0) → LoadsFrom content result (Ok k) → ((x : X) → content x ≡ k → Holds x) → IfOk result Holds
+loaded_has content (Ok x) k Holds read each = each x (let same : content x ≡ k = cc in same)
+loaded_has content (Err e) k Holds read each = tt
 
--- what is read of a strict arena's file, by what was read of an arena's
 module _ {T K : Type 0} (content : T → K) (counting : Bool) where
-  pub read_strictly : (s : ArenaState T) (reading : List ℕ → Reading (List (Option (ℕ × K)) × (ℕ × List ℕ))) (known : Option (List ℕ)) → (counting && is_any_past s.counter s.slots) ≡ false
-      → IfSome known (λ bytes. LoadsFrom (arena_content content) (Ok s) (reading bytes)) → IfSome known (λ bytes. LoadsFrom (arena_content content) (Ok s) (up_to_counter counting (reading bytes)))
-  read_strictly s reading None none read = tt
-  read_strictly s reading (Some bytes) none read = ap (up_to_counter counting) read ∙ rw (past_content content s, none) refl
+  -- what is read of a strict arena's bytes, by what was read of the arena inside
+  pub read_strictly : (s : ArenaState T) (rest bytes : List ℕ) (decoding : List ℕ → Decoded (List (Option (ℕ × K)) × (ℕ × List ℕ))) → (counting && is_any_past s.counter s.slots) ≡ false
+      → decoding bytes ≡ Ok (arena_content content s, rest) → checked counting decoding bytes ≡ Ok (arena_content content s, rest)
+  read_strictly s rest bytes decoding none read = rw read (rw (past_content content s, none) refl)
 
   -- an entry past the counter is the fault
-  pub read_past : (s : ArenaState T) (reading : List ℕ → Reading (List (Option (ℕ × K)) × (ℕ × List ℕ))) (known : Option (List ℕ)) → (counting && is_any_past s.counter s.slots) ≡ true
-      → IfSome known (λ bytes. LoadsFrom (arena_content content) (Ok s) (reading bytes)) → IfSome known (λ bytes. up_to_counter counting (reading bytes) ≡ Err (Counter, 17))
-  read_past s reading None past read = tt
-  read_past s reading (Some bytes) past read = ap (up_to_counter counting) read ∙ rw (past_content content s, past) refl
-
-  -- what fits has no entry past the counter
-  pub fitting_is_up_to : (s : ArenaState T) (k : List (Option (ℕ × K)) × (ℕ × List ℕ)) → k ≡ arena_content content s → (counting && is_any_past k.1.0 k.0) ≡ false
-      → (counting && is_any_past s.counter s.slots) ≡ false
-  fitting_is_up_to s k is none =
-      ap (λ b. counting && b) (sym (past_content content s) ∙ ap (λ (j : List (Option (ℕ × K)) × (ℕ × List ℕ)). is_any_past j.1.0 j.0) (sym is)) ∙ none
+  pub read_past : (s : ArenaState T) (rest bytes : List ℕ) (decoding : List ℕ → Decoded (List (Option (ℕ × K)) × (ℕ × List ℕ))) → (counting && is_any_past s.counter s.slots) ≡ true
+      → decoding bytes ≡ Ok (arena_content content s, rest) → checked counting decoding bytes ≡ Err (Counter, length bytes)
+  read_past s rest bytes decoding past read = rw read (rw (past_content content s, past) refl)
 
   -- what a strict arena has fits in its file
   pub fits_strictly : {A E : Type 0} (Fits : Type 0) (s : ArenaState T) (saved : Result A E) → (counting ≡ true → IsUpToCounter s) → OnOk saved Fits

@@ -1,6 +1,6 @@
 -- How values stand as bytes, in one term: their bytes, what is read of bytes, and the law that ties both. An impl of `Codec`
 -- names such a term. A list of bytes is a list of numbers below 256.
-use Rattle.std.specs.Prelude.{◌≡◌, ℕ, List, [], ◌∷◌, ◌++◌, length, Result, Ok, Err}
+use Rattle.std.specs.Prelude.{◌≡◌, ℕ, Bool, true, false, List, [], ◌∷◌, ◌++◌, length, Result, Ok, Err}
 use Rattle.triple_arena_snapshot.specs.declared.fault.Fault.{Fault}
 use Rattle.triple_arena_snapshot.specs.declared.fault.Fault.TheVariants.{Trailing}
 use Rattle.triple_arena_snapshot.specs.declared.fault.DecodeError.{DecodeError}
@@ -45,3 +45,9 @@ Fails (errors.Malformed fault left) read = read ≡ Err (fault, left)
 abbrev pub Gives : {X Y : Type 0} → (X → Y) → Result X DecodeError → Reading Y → Type 0
 Gives content (Ok x) read = read ≡ Ok (content x)
 Gives content (Err e) read = Fails e read
+
+-- why no value was read, by whether reading one asks for memory: one that asks for none isn't refused any
+abbrev pub MayFail : (asks : Bool) → DecodeError → Type 0
+MayFail true e = Unit {0}
+MayFail false errors.Memory = ⊥
+MayFail false (errors.Malformed fault left) = Unit {0}

@@ -1,6 +1,6 @@
 //! The slots of an arena as bytes, and their free list.
 
-ghost use Rattle.std.specs.Prelude.{◌≡◌, ◌++◌, ℕ, Option, map, OnOk, option_copied};
+ghost use Rattle.std.specs.Prelude.{◌≡◌, ◌++◌, ℕ, Option, map, OnOk, option_copied, ◌∷◌, IfErr};
 ghost use Rattle.std.specs.Int.NonZero.{non_zero_usize_get};
 ghost use Rattle.std.specs.List.{flat_map, AllByRecursion};
 ghost use Rattle.std.specs.Option.{option_map};
@@ -8,7 +8,7 @@ ghost use Rattle.triple_arena_traits.specs.Items.{item};
 ghost use Rattle.triple_arena_traits.specs.ArenaState.{map_entry};
 ghost use Rattle.triple_arena_slots.specs.Slot.{entry_of};
 ghost use Rattle.triple_arena_slots.specs.Layout.{after, chain};
-ghost use Rattle.triple_arena_snapshot.specs.Coding.{Gives};
+ghost use Rattle.triple_arena_snapshot.specs.Coding.{Gives, MayFail};
 ghost use Rattle.triple_arena_snapshot.specs.Layouts.{option, both};
 ghost use Rattle.triple_arena_snapshot.specs.ArenaLayouts.{index};
 
@@ -16,6 +16,7 @@ use crate::codec::Codec;
 use crate::entries::{decode_entry, encode_entry};
 use crate::fault::DecodeError;
 use crate::generations::GenerationCodec;
+use crate::shapes::shape_over;
 use std::alloc::Global;
 use std::num::NonZeroUsize;
 use triple_arena_base::AllocError;
@@ -34,6 +35,14 @@ where
 
     ghost coding = { option (both P.Gen.numbered T.coding) };
 
+    ghost shape = { 36 ∷ T.shape };
+
+    ghost asks = { T.asks };
+
+    fn shape_at(at: usize) -> Result<u8, usize> {
+        shape_over::<T>(36, at)
+    }
+
     // The trait's clauses are written out, since inheriting them makes each call dearer to prove.
     fn encode(&self, out: &mut Vec<u8>) -> Result<(), AllocError>
         ensures written { OnOk result (out.new.items ≡ out.old.items
@@ -49,6 +58,7 @@ where
         ensures read { Gives
             (λ x. (option_map (map_entry T.content) (entry_of P.Gen.number x.0), x.1.now)) result
             ((option (both P.Gen.numbered T.coding)).decoding bytes.now) }
+        ensures memory { IfErr result (λ e. MayFail T.asks e) }
     {
         let (entry, rest) = decode_entry::<P::Gen, T>(alloc, bytes)?;
         let slot = match entry {

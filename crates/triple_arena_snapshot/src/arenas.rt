@@ -1,20 +1,22 @@
 //! Arenas as bytes.
 
-ghost use Rattle.std.specs.Prelude.{◌≡◌, ◌++◌, ℕ, List, Option, None, [], map, slice_get, OnOk, IfOk};
+ghost use Rattle.std.specs.Prelude.{◌≡◌, ◌++◌, ℕ, List, Option, None, [], map, slice_get, OnOk, IfOk, true, IfErr};
 ghost use Rattle.std.specs.Int.NonZero.{non_zero_usize_get};
 ghost use Rattle.std.specs.Option.{option_map};
 ghost use Rattle.triple_arena_traits.specs.ArenaState.{map_entry};
-ghost use Rattle.triple_arena_snapshot.specs.Coding.{Gives};
+ghost use Rattle.triple_arena_snapshot.specs.Coding.{Gives, MayFail};
 ghost use Rattle.triple_arena_snapshot.specs.Codings.{list_bytes};
 ghost use Rattle.triple_arena_snapshot.specs.Layouts.{list};
 ghost use Rattle.triple_arena_snapshot.specs.ArenaCodings.{arena_content};
 ghost use Rattle.triple_arena_snapshot.specs.ArenaLayouts.{arena_coding, index};
+ghost use Rattle.triple_arena_snapshot.specs.Shapes.{arena_shape};
 
 use crate::arena_slots::encode_links;
 use crate::codec::Codec;
 use crate::fault::{DecodeError, Fault};
 use crate::free_lists::are_free;
 use crate::generations::GenerationCodec;
+use crate::shapes::shape_over;
 use crate::stacks::{behind_header, decode_stack, encode_header, encode_items};
 use std::alloc::Global;
 use std::num::NonZeroUsize;
@@ -88,6 +90,14 @@ where
 
     ghost coding = { arena_coding P.Inx.greatest P.Gen.width None P.Gen.numbered T.coding };
 
+    ghost shape = { arena_shape T.shape };
+
+    ghost asks = { true };
+
+    fn shape_at(at: usize) -> Result<u8, usize> {
+        shape_over::<T>(37, at)
+    }
+
     // The trait's clauses are written out, since inheriting them makes each call dearer to prove.
     fn encode(&self, out: &mut Vec<u8>) -> Result<(), AllocError>
         ensures written { OnOk result (out.new.items ≡ out.old.items
@@ -103,6 +113,7 @@ where
     fn decode(alloc: Global, bytes: &[u8]) -> Result<(Self, &[u8]), DecodeError>
         ensures read { Gives (λ x. (arena_content T.content x.0, x.1.now)) result
             ((arena_coding P.Inx.greatest P.Gen.width None P.Gen.numbered T.coding).decoding bytes.now) }
+        ensures memory { IfErr result (λ e. MayFail true e) }
     {
         decode_arena(NonZeroInxVec::new(alloc), alloc, bytes)
     }

@@ -1,15 +1,16 @@
 //! The values of std's types that hold others, and text, as bytes.
 
-ghost use Rattle.std.specs.Prelude.{◌≡◌, ℕ, ◌^◌, ◌++◌, Bool, List, Option, OnOk, map};
+ghost use Rattle.std.specs.Prelude.{◌≡◌, ℕ, ◌^◌, ◌++◌, Bool, List, Option, OnOk, map, ◌∷◌, [], true, false, ◌||◌, IfErr};
 ghost use Rattle.std.specs.Option.{option_map};
 ghost use Rattle.std.specs.List.{flat_map, AllByRecursion};
 ghost use Rattle.std.specs.String.{string_bytes};
-ghost use Rattle.triple_arena_snapshot.specs.Coding.{Gives};
+ghost use Rattle.triple_arena_snapshot.specs.Coding.{Gives, MayFail};
 ghost use Rattle.triple_arena_snapshot.specs.Codings.{front_of, many_at_front};
 ghost use Rattle.triple_arena_snapshot.specs.Layouts.{unit, bool, option, both, list, text};
 
 use crate::codec::Codec;
 use crate::fault::{DecodeError, Fault};
+use crate::shapes::{shape_alone, shape_over, shape_over_both};
 use std::alloc::Global;
 use triple_arena_base::AllocError;
 
@@ -20,6 +21,14 @@ impl Codec for () {
     ghost content = { λ u. u };
 
     ghost coding = { unit };
+
+    ghost shape = { 19 ∷ [] };
+
+    ghost asks = { false };
+
+    fn shape_at(at: usize) -> Result<u8, usize> {
+        shape_alone(19, at)
+    }
 
     fn encode(&self, out: &mut Vec<u8>) -> Result<(), AllocError> {
         0u8.encode(out)
@@ -41,6 +50,14 @@ impl Codec for bool {
     ghost content = { λ b. b };
 
     ghost coding = { bool };
+
+    ghost shape = { 20 ∷ [] };
+
+    ghost asks = { false };
+
+    fn shape_at(at: usize) -> Result<u8, usize> {
+        shape_alone(20, at)
+    }
 
     fn encode(&self, out: &mut Vec<u8>) -> Result<(), AllocError> {
         match self {
@@ -66,6 +83,14 @@ impl<T: Codec> Codec for Option<T> {
     ghost content = { option_map T.content };
 
     ghost coding = { option T.coding };
+
+    ghost shape = { 21 ∷ T.shape };
+
+    ghost asks = { T.asks };
+
+    fn shape_at(at: usize) -> Result<u8, usize> {
+        shape_over::<T>(21, at)
+    }
 
     fn encode(&self, out: &mut Vec<u8>) -> Result<(), AllocError> {
         match self {
@@ -98,6 +123,14 @@ impl<A: Codec + Drop, B: Codec> Codec for (A, B) {
 
     ghost coding = { both A.coding B.coding };
 
+    ghost shape = { 22 ∷ A.shape ++ B.shape };
+
+    ghost asks = { A.asks || B.asks };
+
+    fn shape_at(at: usize) -> Result<u8, usize> {
+        shape_over_both::<A, B>(22, at)
+    }
+
     fn encode(&self, out: &mut Vec<u8>) -> Result<(), AllocError> {
         self.0.encode(out)?;
         self.1.encode(out)
@@ -118,6 +151,14 @@ impl<T: Codec + Drop> Codec for Vec<T> {
 
     ghost coding = { list T.coding };
 
+    ghost shape = { 23 ∷ T.shape };
+
+    ghost asks = { true };
+
+    fn shape_at(at: usize) -> Result<u8, usize> {
+        shape_over::<T>(23, at)
+    }
+
     fn encode(&self, out: &mut Vec<u8>) -> Result<(), AllocError> {
         self.len().encode(out)?;
         encode_all(self.as_slice(), out)
@@ -137,6 +178,14 @@ impl Codec for String {
 
     ghost coding = { text };
 
+    ghost shape = { 24 ∷ [] };
+
+    ghost asks = { true };
+
+    fn shape_at(at: usize) -> Result<u8, usize> {
+        shape_alone(24, at)
+    }
+
     fn encode(&self, out: &mut Vec<u8>) -> Result<(), AllocError> {
         self.len().encode(out)?;
         Ok(out.extend_from_slice(self.as_bytes())?)
@@ -154,7 +203,8 @@ impl Codec for String {
 
 /// The first bytes, so many, and those behind them.
 pub(crate) fn split_front(bytes: &[u8], count: usize) -> Result<(&[u8], &[u8]), DecodeError>
-    ensures { Gives (λ x. (x.0.now, x.1.now)) result (front_of count bytes.now) }
+    ensures read { Gives (λ x. (x.0.now, x.1.now)) result (front_of count bytes.now) }
+    ensures memory { IfErr result (λ e. MayFail false e) }
 {
     if bytes.len() < count {
         return Err(DecodeError::Malformed(Fault::Cut, bytes.len()));

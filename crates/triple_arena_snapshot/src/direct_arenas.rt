@@ -1,17 +1,19 @@
 //! Direct arenas as bytes.
 
-ghost use Rattle.std.specs.Prelude.{◌≡◌, ◌++◌, ℕ, List, Option, None, [], map, OnOk, IfOk};
+ghost use Rattle.std.specs.Prelude.{◌≡◌, ◌++◌, ℕ, List, Option, None, [], map, OnOk, IfOk, ◌∷◌, true, IfErr};
 ghost use Rattle.std.specs.Option.{option_map};
 ghost use Rattle.triple_arena_traits.specs.ArenaState.{map_entry};
 ghost use Rattle.triple_arena_direct_arena.specs.DirectSlot.{direct_slot_entry};
-ghost use Rattle.triple_arena_snapshot.specs.Coding.{Gives};
+ghost use Rattle.triple_arena_snapshot.specs.Coding.{Gives, MayFail};
 ghost use Rattle.triple_arena_snapshot.specs.Layouts.{option, both};
 ghost use Rattle.triple_arena_snapshot.specs.ArenaLayouts.{direct_arena_coding};
+ghost use Rattle.triple_arena_snapshot.specs.Shapes.{direct_arena_shape};
 
 use crate::codec::Codec;
 use crate::entries::{decode_entry, encode_entry};
 use crate::fault::DecodeError;
 use crate::generations::GenerationCodec;
+use crate::shapes::shape_over;
 use crate::stacks::{behind_header, decode_stack, encode_header, encode_items};
 use std::alloc::Global;
 use triple_arena_base::AllocError;
@@ -31,6 +33,14 @@ where
 
     ghost coding = { option (both P.Gen.numbered T.coding) };
 
+    ghost shape = { 36 ∷ T.shape };
+
+    ghost asks = { T.asks };
+
+    fn shape_at(at: usize) -> Result<u8, usize> {
+        shape_over::<T>(36, at)
+    }
+
     // The trait's clauses are written out, since inheriting them makes each call dearer to prove.
     fn encode(&self, out: &mut Vec<u8>) -> Result<(), AllocError>
         ensures written { OnOk result (out.new.items ≡ out.old.items
@@ -46,6 +56,7 @@ where
         ensures read { Gives
             (λ x. (option_map (map_entry T.content) (direct_slot_entry P.Gen.number x.0), x.1.now)) result
             ((option (both P.Gen.numbered T.coding)).decoding bytes.now) }
+        ensures memory { IfErr result (λ e. MayFail T.asks e) }
     {
         let (entry, rest) = decode_entry::<P::Gen, T>(alloc, bytes)?;
         let slot = match entry {
@@ -109,6 +120,14 @@ where
 
     ghost coding = { direct_arena_coding P.Inx.greatest P.Gen.width None P.Gen.numbered T.coding };
 
+    ghost shape = { direct_arena_shape T.shape };
+
+    ghost asks = { true };
+
+    fn shape_at(at: usize) -> Result<u8, usize> {
+        shape_over::<T>(38, at)
+    }
+
     fn encode(&self, out: &mut Vec<u8>) -> Result<(), AllocError>
         ensures written { OnOk result (out.new.items ≡ out.old.items
             ++ (direct_arena_coding P.Inx.greatest P.Gen.width None P.Gen.numbered T.coding).encoding
@@ -124,6 +143,7 @@ where
         ensures read { Gives (λ x. (map (option_map (map_entry T.content)) x.0.slots, x.1.now)) result
             ((direct_arena_coding P.Inx.greatest P.Gen.width None P.Gen.numbered T.coding).decoding
             bytes.now) }
+        ensures memory { IfErr result (λ e. MayFail true e) }
     {
         decode_direct_arena(NonZeroInxVec::new(alloc), alloc, bytes)
     }

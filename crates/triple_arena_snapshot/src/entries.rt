@@ -1,9 +1,9 @@
 //! The entries of slots as bytes.
 
-ghost use Rattle.std.specs.Prelude.{◌≡◌, ◌++◌, ℕ, Option, OnOk};
+ghost use Rattle.std.specs.Prelude.{◌≡◌, ◌++◌, ℕ, Option, OnOk, IfErr};
 ghost use Rattle.std.specs.Option.{option_map};
 ghost use Rattle.triple_arena_traits.specs.ArenaState.{map_entry};
-ghost use Rattle.triple_arena_snapshot.specs.Coding.{Gives};
+ghost use Rattle.triple_arena_snapshot.specs.Coding.{Gives, MayFail};
 ghost use Rattle.triple_arena_snapshot.specs.Layouts.{option, both};
 
 use crate::codec::Codec;
@@ -39,8 +39,9 @@ pub(crate) fn decode_entry<G: GenerationCodec, T: Codec>(
     alloc: Global,
     bytes: &[u8],
 ) -> Result<(Option<(G, T)>, &[u8]), DecodeError>
-    ensures { Gives (λ x. (option_map (λ e. (G.number e.0, T.content e.1)) x.0, x.1.now)) result
+    ensures read { Gives (λ x. (option_map (λ e. (G.number e.0, T.content e.1)) x.0, x.1.now)) result
         ((option (both G.numbered T.coding)).decoding bytes.now) }
+    ensures memory { IfErr result (λ e. MayFail T.asks e) }
 {
     match bytes {
         [] => Err(DecodeError::Malformed(Fault::Cut, 0)),

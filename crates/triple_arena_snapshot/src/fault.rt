@@ -22,6 +22,12 @@ pub enum Fault {
     /// A text isn't UTF-8.
     #[error("a text is not UTF-8")]
     Text,
+    /// A float's bits are of a NaN, and not those by which a NaN is written.
+    #[error("the bits of a float are another pattern of a NaN than the one that is written")]
+    Nan,
+    /// A key of a map isn't above the one in front of it.
+    #[error("a key of a map is not above the one in front of it")]
+    Order,
     /// An arena's pointers are of another width.
     #[error("the pointers of an arena are of another width")]
     Width,
@@ -43,8 +49,11 @@ pub enum Fault {
     /// The file is of another version of the format.
     #[error("the file is of another version")]
     Version,
-    /// The file's sums are not those of its bytes.
-    #[error("the sums are not those of the bytes")]
+    /// The file is one of values of another type.
+    #[error("the file is of values of another type")]
+    Shape,
+    /// The checksum isn't that of what stands before it.
+    #[error("the checksum is not that of the bytes before it")]
     Sum,
 }
 

@@ -1,38 +1,52 @@
-//! The bytes of a file: a mark, a version, how many bytes the value takes, these, and sums over them.
+//! The bytes of a file: a mark, a version, the shape of the value's type, how many bytes the value takes, these, and a checksum.
 
-ghost use Rattle.std.specs.Prelude.{◌≡◌, ◌≢◌, ◌<◌, ◌^◌, ◌++◌, ◌∷◌, ℕ, List, get_or, Ok, OnOk, IfOk, IsErr, length};
-ghost use Rattle.triple_arena_snapshot.specs.Coding.{Gives, whole};
-ghost use Rattle.triple_arena_snapshot.specs.Files.{sums, seal, head_of, file_of, behind, are_sums, unsealed, sealed_in, payload_in, file_reading, at_offset, value_refusal, Loads};
+ghost use Rattle.std.specs.Prelude.{◌≡◌, ◌≢◌, ◌<◌, ◌≤◌, ◌^◌, ◌++◌, ℕ, List, get_or, false, Ok, Err, OnOk, IfOk, IfErr, IsErr, length};
+ghost use Rattle.triple_arena_snapshot.specs.Coding.{Gives, MayFail};
+ghost use Rattle.triple_arena_snapshot.specs.Marks.{behind};
+ghost use Rattle.triple_arena_snapshot.specs.Files.{head_of, file_of, before, unsealed, sealed_in, payload_in, file_reading, at_offset, value_refusal, Loads};
 
+use crate::checksum::crc32c;
 use crate::codec::{Codec, from_bytes, to_bytes};
 use crate::containers::split_front;
 use crate::fault::{DecodeError, Fault, LoadError};
+use crate::shapes::{behind_shape, put_shape};
 use std::alloc::Global;
 use triple_arena_base::AllocError;
 
 /// The file of a value, as bytes.
 pub fn to_file_bytes<T: Codec>(value: &T, alloc: Global) -> Result<Vec<u8>, AllocError>
     ensures written { IfOk result (λ v.
-        v.items ≡ file_of (T.coding.encoding (T.content value.now))) }
+        v.items ≡ file_of T.shape (T.coding.encoding (T.content value.now))) }
     ensures fits { OnOk result (T.coding.fits (T.content value.now)) }
 {
     let payload = to_bytes(value, alloc)?;
-    let mut out = head_of(payload.len(), alloc)?;
+    let mut out = head_of::<T>(&[], payload.len(), alloc)?;
     out.extend_from_slice(&payload)?;
-    put_seal(&payload, &mut out)?;
+    let sum = crc32c(&out);
+    sum.encode(&mut out)?;
     Ok(out)
 }
 
 /// The value whose file these bytes are, all of them.
 pub fn from_file_bytes<T: Codec + Drop>(alloc: Global, bytes: &[u8]) -> Result<T, LoadError>
     ensures read { Loads T.content result
-        (file_reading T.coding.decoding bytes.now) }
+        (file_reading T.shape T.coding.decoding bytes.now) }
     // What was saved is loaded, unless memory is refused.
-    ensures again { (k : T.Content) → T.coding.fits k → bytes.now ≡ file_of (T.coding.encoding k)
-        → Loads T.content result (Ok k) }
-    // A file of which one byte was changed is refused.
-    ensures change_found { (saved front rest : List ℕ) (b c : ℕ) → b < 256 → b ≢ c
-        → file_of saved ≡ front ++ b ∷ rest → bytes.now ≡ front ++ c ∷ rest → IsErr result }
+    ensures again { (k : T.Content) → T.coding.fits k
+        → bytes.now ≡ file_of T.shape (T.coding.encoding k) → Loads T.content result (Ok k) }
+
+    // What is wrong in front of the value, or with the checksum, is told whatever memory is left; and
+    // each fault is, of a type whose values are read without memory.
+    ensures front { (fault : Fault × ℕ)
+        → at_offset (length bytes.now) (payload_in T.shape bytes.now) ≡ Err fault
+        → result ≡ Err (LoadError.Malformed fault.0 fault.1) }
+    ensures memory { T.asks ≡ false → IfErr result (λ e. e ≢ LoadError.Memory) }
+
+    // A file of any value, of which up to four bytes side by side were changed, is refused.
+    ensures change_found { (shape saved front burst other rest : List ℕ)
+        → ((i : ℕ) → get_or burst i 0 < 256) → length burst ≡ length other → length burst ≤ 4
+        → burst ≢ other → file_of shape saved ≡ front ++ (burst ++ rest)
+        → bytes.now ≡ front ++ (other ++ rest) → IsErr result }
 {
     read_file(alloc, bytes)
 }
@@ -40,59 +54,64 @@ pub fn from_file_bytes<T: Codec + Drop>(alloc: Global, bytes: &[u8]) -> Result<T
 // The value whose file these bytes are.
 pub(crate) fn read_file<T: Codec + Drop>(alloc: Global, bytes: &[u8]) -> Result<T, LoadError>
     ensures read { Loads T.content result
-        (file_reading T.coding.decoding bytes.now) }
+        (file_reading T.shape T.coding.decoding bytes.now) }
+    ensures front { (fault : Fault × ℕ)
+        → at_offset (length bytes.now) (payload_in T.shape bytes.now) ≡ Err fault
+        → result ≡ Err (LoadError.Malformed fault.0 fault.1) }
+    ensures memory { T.asks ≡ false → IfErr result (λ e. e ≢ LoadError.Memory) }
     ensures few { length bytes.now < 2 ^ 64 }
     ensures small { (i : ℕ) → get_or bytes.now i 0 < 256 }
 {
-    let payload = payload_of(alloc, bytes)?;
+    let payload = payload_of::<T>(&[], alloc, bytes)?;
     match from_bytes(alloc, payload) {
         Ok(value) => Ok(value),
-        Err(refusal) => Err(in_value(refusal, payload.len())),
+        Err(refusal) => Err(in_value(refusal, bytes.len())),
     }
 }
 
 // What stands in front of so many bytes of a value.
-pub(crate) fn head_of(count: usize, alloc: Global) -> Result<Vec<u8>, AllocError>
-    ensures { IfOk result (λ v. v.items ≡ head_of count) }
+pub(crate) fn head_of<T: Codec>(
+    outer: &[u8],
+    count: usize,
+    alloc: Global,
+) -> Result<Vec<u8>, AllocError>
+    ensures { IfOk result (λ v. v.items ≡ head_of (outer.now ++ T.shape) count) }
 {
     let mut head = Vec::new(alloc);
     head.extend_from_slice(b"triarena")?;
-    head.extend_from_slice(&[1])?;
+    head.extend_from_slice(&[2])?;
+    put_shape::<T>(outer, alloc, &mut head)?;
     count.encode(&mut head)?;
     Ok(head)
 }
 
-// Writes the sums of bytes.
-pub(crate) fn put_seal(payload: &[u8], out: &mut Vec<u8>) -> Result<(), AllocError>
-    ensures { OnOk result (out.new.items ≡ out.old.items ++ seal payload.now) }
-{
-    let (low, high) = sums_of(payload);
-    low.encode(out)?;
-    high.encode(out)
-}
-
-// The refusal of a value's bytes, so many of them, by its offset in the file.
-pub(crate) fn in_value(refusal: DecodeError, total: usize) -> LoadError
-    requires { total < 2 ^ 63 }
-    ensures { result ≡ value_refusal total refusal }
+// The refusal of a value's bytes, by its offset in the file, which has so many.
+pub(crate) fn in_value(refusal: DecodeError, file: usize) -> LoadError
+    ensures { result ≡ value_refusal file refusal }
 {
     match refusal {
         DecodeError::Memory => LoadError::Memory,
         DecodeError::Malformed(fault, left) => {
-            LoadError::Malformed(fault, 17 + total.saturating_sub(left))
+            LoadError::Malformed(fault, file.saturating_sub(4).saturating_sub(left))
         }
     }
 }
 
 // The value's bytes in a file; or the first fault, by its offset.
-pub(crate) fn payload_of(alloc: Global, bytes: &[u8]) -> Result<&[u8], LoadError>
-    ensures read { Loads (λ x. x.now) result (at_offset 0 (length bytes.now) (payload_in bytes.now)) }
+pub(crate) fn payload_of<'a, T: Codec>(
+    outer: &[u8],
+    alloc: Global,
+    bytes: &'a [u8],
+) -> Result<&'a [u8], LoadError>
+    ensures read { Loads (λ x. x.now) result
+        (at_offset (length bytes.now) (payload_in (outer.now ++ T.shape) bytes.now)) }
+    ensures memory { IfErr result (λ e. e ≢ LoadError.Memory) }
     ensures few { length bytes.now < 2 ^ 64 }
     ensures small { (i : ℕ) → get_or bytes.now i 0 < 256 }
 {
     // There are no more than fit.
     let _len = bytes.len();
-    match payload_in(alloc, bytes) {
+    match payload_in::<T>(outer, alloc, bytes) {
         Ok(payload) => Ok(payload),
         Err(DecodeError::Memory) => Err(LoadError::Memory),
         Err(DecodeError::Malformed(fault, left)) => Err(LoadError::Malformed(
@@ -102,17 +121,24 @@ pub(crate) fn payload_of(alloc: Global, bytes: &[u8]) -> Result<&[u8], LoadError
     }
 }
 
-fn payload_in(alloc: Global, bytes: &[u8]) -> Result<&[u8], DecodeError>
-    ensures { Gives (λ x. x.now) result (payload_in bytes.now) }
+fn payload_in<'a, T: Codec>(
+    outer: &[u8],
+    alloc: Global,
+    bytes: &'a [u8],
+) -> Result<&'a [u8], DecodeError>
+    ensures read { Gives (λ x. x.now) result (payload_in (outer.now ++ T.shape) bytes.now) }
+    ensures memory { IfErr result (λ e. MayFail false e) }
 {
     let marked = behind(bytes, b"triarena", Fault::Mark)?;
-    let rest = behind(marked, &[1], Fault::Version)?;
-    sealed_in(alloc, rest)
+    let rest = behind(marked, &[2], Fault::Version)?;
+    let shaped = behind_shape::<T>(outer, alloc, rest)?;
+    sealed_in(alloc, bytes, shaped)
 }
 
 // The bytes behind these, which stand at the front.
 fn behind<'a>(bytes: &'a [u8], marked: &[u8], fault: Fault) -> Result<&'a [u8], DecodeError>
-    ensures { Gives (λ x. x.now) result (behind marked.now fault bytes.now) }
+    ensures read { Gives (λ x. x.now) result (behind marked.now fault bytes.now) }
+    ensures memory { IfErr result (λ e. MayFail false e) }
 {
     let mut rest = bytes;
     for m in marked {
@@ -129,21 +155,28 @@ fn behind<'a>(bytes: &'a [u8], marked: &[u8], fault: Fault) -> Result<&'a [u8], 
     Ok(rest)
 }
 
-// The value's bytes, behind their count and in front of their sums, which end the file.
-fn sealed_in(alloc: Global, bytes: &[u8]) -> Result<&[u8], DecodeError>
-    ensures { Gives (λ x. x.now) result (sealed_in bytes.now) }
+// The value's bytes, behind their count and in front of the checksum, which ends the file.
+fn sealed_in<'a>(alloc: Global, file: &[u8], bytes: &'a [u8]) -> Result<&'a [u8], DecodeError>
+    ensures read { Gives (λ x. x.now) result (sealed_in file.now bytes.now) }
+    ensures memory { IfErr result (λ e. MayFail false e) }
 {
     let (count, rest) = usize::decode(alloc, bytes)?;
     let (payload, behind) = split_front(rest, count)?;
-    unsealed(payload, behind)
+    unsealed(alloc, file, payload, behind)
 }
 
-// These bytes, if their sums stand behind them, and nothing behind these.
-fn unsealed<'a>(payload: &'a [u8], behind: &[u8]) -> Result<&'a [u8], DecodeError>
-    ensures { Gives (λ x. x.now) result (unsealed payload.now behind.now) }
+// These bytes of a file, if behind them stands the checksum of all before it, and nothing behind that.
+fn unsealed<'a>(
+    alloc: Global,
+    file: &[u8],
+    payload: &'a [u8],
+    behind: &[u8],
+) -> Result<&'a [u8], DecodeError>
+    ensures read { Gives (λ x. x.now) result (unsealed file.now payload.now behind.now) }
+    ensures memory { IfErr result (λ e. MayFail false e) }
 {
-    let (seals, rest) = split_front(behind, 8)?;
-    if !are_sums(payload, seals) {
+    let (sum, rest) = u32::decode(alloc, behind)?;
+    if sum != crc32c(before(file, behind)) {
         return Err(DecodeError::Malformed(Fault::Sum, behind.len()));
     }
     if !rest.is_empty() {
@@ -152,24 +185,9 @@ fn unsealed<'a>(payload: &'a [u8], behind: &[u8]) -> Result<&'a [u8], DecodeErro
     Ok(payload)
 }
 
-// Whether these eight bytes are the sums.
-fn are_sums(payload: &[u8], seals: &[u8]) -> bool
-    requires { length seals.now ≡ 8 }
-    ensures { result ≡ are_sums payload.now seals.now }
+// The bytes of a file in front of the last ones.
+fn before<'a>(file: &'a [u8], rest: &[u8]) -> &'a [u8]
+    ensures { result.now ≡ before file.now rest.now }
 {
-    let (low, high) = sums_of(payload);
-    low == u32::from_le_bytes([seals[0], seals[1], seals[2], seals[3]])
-        && high == u32::from_le_bytes([seals[4], seals[5], seals[6], seals[7]])
-}
-
-// The sum of the bytes, and the sum of the sums so far.
-fn sums_of(bytes: &[u8]) -> (u32, u32)
-    ensures { result ≡ sums bytes.now }
-{
-    let (mut low, mut high) = (0u32, 0u32);
-    for b in bytes {
-        low = low.wrapping_add(*b as u32);
-        high = high.wrapping_add(low);
-    }
-    (low, high)
+    &file[..file.len().saturating_sub(rest.len())]
 }

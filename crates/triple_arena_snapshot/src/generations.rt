@@ -1,9 +1,9 @@
 //! Generations as bytes, by their numbers.
 
-ghost use Rattle.std.specs.Prelude.{◌≡◌, ◌++◌, ℕ, ◌^◌, length, OnOk};
+ghost use Rattle.std.specs.Prelude.{◌≡◌, ◌++◌, ℕ, ◌^◌, length, OnOk, IfErr, false};
 ghost use Rattle.std.proofs.Common.{refl};
 ghost use Rattle.std.specs.Int.{w16, w32, w64};
-ghost use Rattle.triple_arena_snapshot.specs.Coding.{Coding, Gives};
+ghost use Rattle.triple_arena_snapshot.specs.Coding.{Coding, Gives, MayFail};
 ghost use Rattle.triple_arena_snapshot.specs.Layouts.{byte, number, positive, long_number, nothing};
 ghost use Rattle.triple_arena_snapshot.specs.laws.CodingLaws.{wide16, wide32, wide64};
 
@@ -35,9 +35,10 @@ pub trait GenerationCodec: PtrGen {
         ensures fits { OnOk result (numbered.fits (Self.number self)) };
 
     /// The generation whose number stands at the front of the bytes, and the bytes behind it; or the
-    /// first fault.
+    /// first fault. It asks for no memory.
     fn decode_generation(alloc: Global, bytes: &[u8]) -> Result<(Self, &[u8]), DecodeError>
-        ensures read { Gives (λ x. (Self.number x.0, x.1.now)) result (numbered.decoding bytes.now) };
+        ensures read { Gives (λ x. (Self.number x.0, x.1.now)) result (numbered.decoding bytes.now) }
+        ensures memory { IfErr result (λ e. MayFail false e) };
 }
 
 /// One byte.

@@ -1,12 +1,13 @@
 //! Files that are read.
 
-ghost use Rattle.std.specs.Prelude.{◌≡◌, ◌≢◌, ◌<◌, ◌^◌, ◌++◌, ◌∷◌, ℕ, length, get_or, List, Option, Some, Ok, [], map, OnOk, IfOk, IfErr, IfSome, IsErr, ◌⊎◌};
+ghost use Rattle.std.specs.Prelude.{◌≡◌, ◌≢◌, ◌<◌, ◌≤◌, ◌^◌, ◌++◌, ℕ, length, get_or, List, Option, Some, Ok, [], map, OnOk, IfOk, IfErr, IfSome, IsErr, ◌⊎◌};
 ghost use Rattle.std.specs.Io.KnownBytes.{IsAtEnd};
 ghost use Rattle.std.specs.Option.{option_map};
 ghost use Rattle.triple_arena_traits.specs.ArenaState.{map_entry};
 ghost use Rattle.triple_arena_snapshot.specs.Coding.{Gives, whole};
 ghost use Rattle.triple_arena_snapshot.specs.ArenaCodings.{arena_content};
 ghost use Rattle.triple_arena_snapshot.specs.ArenaLayouts.{arena_coding, direct_arena_coding};
+ghost use Rattle.triple_arena_snapshot.specs.Shapes.{arena_shape, direct_arena_shape};
 ghost use Rattle.triple_arena_snapshot.specs.Files.{file_of, file_reading, Loads, LoadsFrom};
 
 use crate::arenas::decode_arena;
@@ -28,15 +29,16 @@ use triple_arena_ptr::Ptr;
 /// then. Memory is asked for as bytes come, and never by a number in them.
 pub fn load<T: Codec + Drop, R: Read>(alloc: Global, input: &mut R) -> Result<T, LoadError>
     ensures read { IfSome (R.remaining input.old) (λ bytes.
-        LoadsFrom T.content result (file_reading T.coding.decoding bytes)) }
+        LoadsFrom T.content result (file_reading T.shape T.coding.decoding bytes)) }
     // What was saved is loaded, unless memory is refused or the reader fails.
     ensures again { (k : T.Content) → T.coding.fits k
-        → R.remaining input.old ≡ Some (file_of (T.coding.encoding k))
+        → R.remaining input.old ≡ Some (file_of T.shape (T.coding.encoding k))
         → LoadsFrom T.content result (Ok k) }
-    // A file of which one byte was changed is refused.
-    ensures change_found { (saved front rest : List ℕ) (b c : ℕ) → b < 256 → b ≢ c
-        → file_of saved ≡ front ++ b ∷ rest → R.remaining input.old ≡ Some (front ++ c ∷ rest)
-        → IsErr result }
+    // A file of any value, of which up to four bytes side by side were changed, is refused.
+    ensures change_found { (shape saved front burst other rest : List ℕ)
+        → ((i : ℕ) → get_or burst i 0 < 256) → length burst ≡ length other → length burst ≤ 4
+        → burst ≢ other → file_of shape saved ≡ front ++ (burst ++ rest)
+        → R.remaining input.old ≡ Some (front ++ (other ++ rest)) → IsErr result }
     ensures end { OnOk result (IsAtEnd (R.remaining input.new)) }
 {
     match read_all(alloc, input) {
@@ -59,18 +61,19 @@ where
     P::Gen: GenerationCodec,
     requires { S.items stack ≡ [] }
     ensures read { IfSome (R.remaining input.old) (λ bytes. LoadsFrom (arena_content T.content) result
-        (file_reading (arena_coding P.Inx.greatest P.Gen.width (S.limit stack) P.Gen.numbered
-        T.coding).decoding bytes)) }
+        (file_reading (arena_shape T.shape) (arena_coding P.Inx.greatest P.Gen.width (S.limit stack)
+        P.Gen.numbered T.coding).decoding bytes)) }
     // What was saved is loaded, unless memory is refused or the reader fails.
     ensures again { (k : List (Option (ℕ × T.Content)) × (ℕ × List ℕ))
         → (arena_coding P.Inx.greatest P.Gen.width (S.limit stack) P.Gen.numbered T.coding).fits k
-        → R.remaining input.old ≡ Some (file_of
+        → R.remaining input.old ≡ Some (file_of (arena_shape T.shape)
         ((arena_coding P.Inx.greatest P.Gen.width (S.limit stack) P.Gen.numbered T.coding).encoding k))
         → LoadsFrom (arena_content T.content) result (Ok k) }
-    // A file of which one byte was changed is refused.
-    ensures change_found { (saved front rest : List ℕ) (b c : ℕ) → b < 256 → b ≢ c
-        → file_of saved ≡ front ++ b ∷ rest → R.remaining input.old ≡ Some (front ++ c ∷ rest)
-        → IsErr result }
+    // A file of any value, of which up to four bytes side by side were changed, is refused.
+    ensures change_found { (shape saved front burst other rest : List ℕ)
+        → ((i : ℕ) → get_or burst i 0 < 256) → length burst ≡ length other → length burst ≤ 4
+        → burst ≢ other → file_of shape saved ≡ front ++ (burst ++ rest)
+        → R.remaining input.old ≡ Some (front ++ (other ++ rest)) → IsErr result }
     ensures limit { IfOk result (λ arena. arena.limit ≡ S.limit stack) }
     ensures end { OnOk result (IsAtEnd (R.remaining input.new)) }
 {
@@ -93,18 +96,19 @@ where
     requires { S.items stack ≡ [] }
     ensures read { IfSome (R.remaining input.old) (λ bytes.
         LoadsFrom (λ arena. map (option_map (map_entry T.content)) arena.slots) result
-        (file_reading (direct_arena_coding P.Inx.greatest P.Gen.width (S.limit stack) P.Gen.numbered
-        T.coding).decoding bytes)) }
+        (file_reading (direct_arena_shape T.shape) (direct_arena_coding P.Inx.greatest P.Gen.width
+        (S.limit stack) P.Gen.numbered T.coding).decoding bytes)) }
     // What was saved is loaded, unless memory is refused or the reader fails.
     ensures again { (k : List (Option (ℕ × T.Content)))
         → (direct_arena_coding P.Inx.greatest P.Gen.width (S.limit stack) P.Gen.numbered T.coding).fits k
-        → R.remaining input.old ≡ Some (file_of ((direct_arena_coding P.Inx.greatest P.Gen.width
-        (S.limit stack) P.Gen.numbered T.coding).encoding k))
-        → LoadsFrom (λ arena. map (option_map (map_entry T.content)) arena.slots) result (Ok k) }
-    // A file of which one byte was changed is refused.
-    ensures change_found { (saved front rest : List ℕ) (b c : ℕ) → b < 256 → b ≢ c
-        → file_of saved ≡ front ++ b ∷ rest → R.remaining input.old ≡ Some (front ++ c ∷ rest)
-        → IsErr result }
+        → R.remaining input.old ≡ Some (file_of (direct_arena_shape T.shape)
+        ((direct_arena_coding P.Inx.greatest P.Gen.width (S.limit stack) P.Gen.numbered
+        T.coding).encoding k)) → LoadsFrom (λ arena. map (option_map (map_entry T.content)) arena.slots) result (Ok k) }
+    // A file of any value, of which up to four bytes side by side were changed, is refused.
+    ensures change_found { (shape saved front burst other rest : List ℕ)
+        → ((i : ℕ) → get_or burst i 0 < 256) → length burst ≡ length other → length burst ≤ 4
+        → burst ≢ other → file_of shape saved ≡ front ++ (burst ++ rest)
+        → R.remaining input.old ≡ Some (front ++ (other ++ rest)) → IsErr result }
     ensures limit { IfOk result (λ arena. arena.limit ≡ S.limit stack) }
     ensures end { OnOk result (IsAtEnd (R.remaining input.new)) }
 {
@@ -115,7 +119,7 @@ where
 }
 
 // All that the reader has left.
-fn read_all<R: Read>(alloc: Global, input: &mut R) -> Result<Vec<u8>, LoadError>
+pub(crate) fn read_all<R: Read>(alloc: Global, input: &mut R) -> Result<Vec<u8>, LoadError>
     ensures bytes { IfOk result (λ all. IfSome (R.remaining input.old) (λ bytes. all.items ≡ bytes)) }
     ensures refusal { IfErr result (λ e. (e ≡ LoadError.Memory) ⊎ (e ≡ LoadError.Read)) }
     ensures end { OnOk result (IsAtEnd (R.remaining input.new)) }
@@ -138,16 +142,16 @@ where
     P::Gen: GenerationCodec,
     requires { S.items stack ≡ [] }
     ensures read { Loads (arena_content T.content) result
-        (file_reading (arena_coding P.Inx.greatest P.Gen.width (S.limit stack) P.Gen.numbered
-        T.coding).decoding bytes.now) }
+        (file_reading (arena_shape T.shape) (arena_coding P.Inx.greatest P.Gen.width
+        (S.limit stack) P.Gen.numbered T.coding).decoding bytes.now) }
     ensures limit { IfOk result (λ arena. arena.limit ≡ S.limit stack) }
     ensures few { length bytes.now < 2 ^ 64 }
     ensures small { (i : ℕ) → get_or bytes.now i 0 < 256 }
 {
-    let payload = payload_of(alloc, bytes)?;
+    let payload = payload_of::<T>(&[37], alloc, bytes)?;
     match whole_arena(stack, alloc, payload) {
         Ok(arena) => Ok(arena),
-        Err(refusal) => Err(in_value(refusal, payload.len())),
+        Err(refusal) => Err(in_value(refusal, bytes.len())),
     }
 }
 
@@ -181,16 +185,16 @@ where
     P::Gen: GenerationCodec,
     requires { S.items stack ≡ [] }
     ensures read { Loads (λ arena. map (option_map (map_entry T.content)) arena.slots) result
-        (file_reading (direct_arena_coding P.Inx.greatest P.Gen.width (S.limit stack) P.Gen.numbered
-        T.coding).decoding bytes.now) }
+        (file_reading (direct_arena_shape T.shape) (direct_arena_coding P.Inx.greatest P.Gen.width
+        (S.limit stack) P.Gen.numbered T.coding).decoding bytes.now) }
     ensures limit { IfOk result (λ arena. arena.limit ≡ S.limit stack) }
     ensures few { length bytes.now < 2 ^ 64 }
     ensures small { (i : ℕ) → get_or bytes.now i 0 < 256 }
 {
-    let payload = payload_of(alloc, bytes)?;
+    let payload = payload_of::<T>(&[38], alloc, bytes)?;
     match whole_direct_arena(stack, alloc, payload) {
         Ok(arena) => Ok(arena),
-        Err(refusal) => Err(in_value(refusal, payload.len())),
+        Err(refusal) => Err(in_value(refusal, bytes.len())),
     }
 }
 

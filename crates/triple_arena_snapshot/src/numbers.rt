@@ -1,6 +1,6 @@
 //! Numbers as bytes, the lowest first.
 
-ghost use Rattle.std.specs.Prelude.{◌≡◌, ℕ, ◌^◌};
+ghost use Rattle.std.specs.Prelude.{◌≡◌, ℕ, ◌^◌, ◌∷◌, [], false};
 ghost use Rattle.std.specs.Int.{w16, w32, w64};
 ghost use Rattle.triple_arena_snapshot.specs.Coding.{Gives};
 ghost use Rattle.triple_arena_snapshot.specs.Codings.{number_at_front};
@@ -9,6 +9,7 @@ ghost use Rattle.triple_arena_snapshot.specs.laws.CodingLaws.{wide16, wide32, wi
 
 use crate::codec::Codec;
 use crate::fault::{DecodeError, Fault};
+use crate::shapes::shape_alone;
 use std::alloc::Global;
 use triple_arena_base::AllocError;
 
@@ -19,6 +20,14 @@ impl Codec for u8 {
     ghost content = { λ n. n };
 
     ghost coding = { byte };
+
+    ghost shape = { 1 ∷ [] };
+
+    ghost asks = { false };
+
+    fn shape_at(at: usize) -> Result<u8, usize> {
+        shape_alone(1, at)
+    }
 
     fn encode(&self, out: &mut Vec<u8>) -> Result<(), AllocError> {
         Ok(out.extend_from_slice(&[*self])?)
@@ -39,6 +48,14 @@ impl Codec for u16 {
     ghost content = { λ n. n };
 
     ghost coding = { number w16 (2 ^ 16) wide16 };
+
+    ghost shape = { 2 ∷ [] };
+
+    ghost asks = { false };
+
+    fn shape_at(at: usize) -> Result<u8, usize> {
+        shape_alone(2, at)
+    }
 
     fn encode(&self, out: &mut Vec<u8>) -> Result<(), AllocError> {
         Ok(out.extend_from_slice(&self.to_le_bytes())?)
@@ -62,6 +79,14 @@ impl Codec for u32 {
 
     ghost coding = { number w32 (2 ^ 32) wide32 };
 
+    ghost shape = { 3 ∷ [] };
+
+    ghost asks = { false };
+
+    fn shape_at(at: usize) -> Result<u8, usize> {
+        shape_alone(3, at)
+    }
+
     fn encode(&self, out: &mut Vec<u8>) -> Result<(), AllocError> {
         Ok(out.extend_from_slice(&self.to_le_bytes())?)
     }
@@ -83,6 +108,14 @@ impl Codec for u64 {
     ghost content = { λ n. n };
 
     ghost coding = { number w64 (2 ^ 64) wide64 };
+
+    ghost shape = { 4 ∷ [] };
+
+    ghost asks = { false };
+
+    fn shape_at(at: usize) -> Result<u8, usize> {
+        shape_alone(4, at)
+    }
 
     fn encode(&self, out: &mut Vec<u8>) -> Result<(), AllocError> {
         Ok(out.extend_from_slice(&self.to_le_bytes())?)
@@ -108,6 +141,14 @@ impl Codec for u128 {
 
     ghost coding = { long_number };
 
+    ghost shape = { 5 ∷ [] };
+
+    ghost asks = { false };
+
+    fn shape_at(at: usize) -> Result<u8, usize> {
+        shape_alone(5, at)
+    }
+
     fn encode(&self, out: &mut Vec<u8>) -> Result<(), AllocError> {
         ((*self % (1 << 64)) as u64).encode(out)?;
         ((*self / (1 << 64)) as u64).encode(out)
@@ -127,6 +168,14 @@ impl Codec for usize {
     ghost content = { λ n. n };
 
     ghost coding = { number w64 (2 ^ 64) wide64 };
+
+    ghost shape = { 6 ∷ [] };
+
+    ghost asks = { false };
+
+    fn shape_at(at: usize) -> Result<u8, usize> {
+        shape_alone(6, at)
+    }
 
     fn encode(&self, out: &mut Vec<u8>) -> Result<(), AllocError> {
         (*self as u64).encode(out)

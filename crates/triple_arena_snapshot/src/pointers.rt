@@ -1,15 +1,16 @@
 //! Pointers as bytes: the index and then the generation, each in the width of its type.
 
-ghost use Rattle.std.specs.Prelude.{◌≡◌, ◌++◌, ℕ, suc, ◌^◌, OnOk};
+ghost use Rattle.std.specs.Prelude.{◌≡◌, ◌++◌, ℕ, suc, ◌^◌, OnOk, ◌∷◌, [], false, IfErr};
 ghost use Rattle.std.specs.Int.{w16, w32, w64};
 ghost use Rattle.triple_arena_ptr.specs.Pointers.{Pointer};
-ghost use Rattle.triple_arena_snapshot.specs.Coding.{Gives};
+ghost use Rattle.triple_arena_snapshot.specs.Coding.{Gives, MayFail};
 ghost use Rattle.triple_arena_snapshot.specs.Layouts.{byte, number, both, pointer, bare_pointer};
 ghost use Rattle.triple_arena_snapshot.specs.laws.CodingLaws.{wide16, wide32, wide64};
 
 use crate::codec::Codec;
 use crate::fault::DecodeError;
 use crate::generations::GenerationCodec;
+use crate::shapes::{shape_alone, shape_over};
 use std::alloc::Global;
 use std::num::{NonZeroU8, NonZeroU16, NonZeroU32, NonZeroU64, NonZeroUsize};
 use triple_arena_base::AllocError;
@@ -24,6 +25,14 @@ impl Codec for P0 {
     ghost content = { λ p. (suc p.0, suc p.1) };
 
     ghost coding = { pointer (number w64 (2 ^ 64) wide64) (number w64 (2 ^ 64) wide64) };
+
+    ghost shape = { 25 ∷ [] };
+
+    ghost asks = { false };
+
+    fn shape_at(at: usize) -> Result<u8, usize> {
+        shape_alone(25, at)
+    }
 
     fn encode(&self, out: &mut Vec<u8>) -> Result<(), AllocError> {
         self.inx().encode(out)?;
@@ -45,6 +54,14 @@ impl Codec for Q2 {
 
     ghost coding = { pointer (number w64 (2 ^ 64) wide64) (number w64 (2 ^ 64) wide64) };
 
+    ghost shape = { 26 ∷ [] };
+
+    ghost asks = { false };
+
+    fn shape_at(at: usize) -> Result<u8, usize> {
+        shape_alone(26, at)
+    }
+
     fn encode(&self, out: &mut Vec<u8>) -> Result<(), AllocError> {
         self.inx().encode(out)?;
         self.generation().encode(out)
@@ -64,6 +81,14 @@ impl Codec for P1 {
     ghost content = { λ p. (suc p.0, suc p.1) };
 
     ghost coding = { pointer (number w16 (2 ^ 16) wide16) (number w64 (2 ^ 64) wide64) };
+
+    ghost shape = { 27 ∷ [] };
+
+    ghost asks = { false };
+
+    fn shape_at(at: usize) -> Result<u8, usize> {
+        shape_alone(27, at)
+    }
 
     fn encode(&self, out: &mut Vec<u8>) -> Result<(), AllocError> {
         self.inx().encode(out)?;
@@ -85,6 +110,14 @@ impl Codec for P2 {
 
     ghost coding = { pointer (number w64 (2 ^ 64) wide64) (number w16 (2 ^ 16) wide16) };
 
+    ghost shape = { 28 ∷ [] };
+
+    ghost asks = { false };
+
+    fn shape_at(at: usize) -> Result<u8, usize> {
+        shape_alone(28, at)
+    }
+
     fn encode(&self, out: &mut Vec<u8>) -> Result<(), AllocError> {
         self.inx().encode(out)?;
         self.generation().encode(out)
@@ -104,6 +137,14 @@ impl Codec for P3 {
     ghost content = { λ p. (suc p.0, suc p.1) };
 
     ghost coding = { pointer (number w16 (2 ^ 16) wide16) (number w16 (2 ^ 16) wide16) };
+
+    ghost shape = { 29 ∷ [] };
+
+    ghost asks = { false };
+
+    fn shape_at(at: usize) -> Result<u8, usize> {
+        shape_alone(29, at)
+    }
 
     fn encode(&self, out: &mut Vec<u8>) -> Result<(), AllocError> {
         self.inx().encode(out)?;
@@ -125,6 +166,14 @@ impl Codec for SmallPtr {
 
     ghost coding = { pointer (number w32 (2 ^ 32) wide32) (number w32 (2 ^ 32) wide32) };
 
+    ghost shape = { 30 ∷ [] };
+
+    ghost asks = { false };
+
+    fn shape_at(at: usize) -> Result<u8, usize> {
+        shape_alone(30, at)
+    }
+
     fn encode(&self, out: &mut Vec<u8>) -> Result<(), AllocError> {
         self.inx().encode(out)?;
         self.generation().encode(out)
@@ -145,6 +194,14 @@ impl Codec for P4 {
 
     ghost coding = { bare_pointer (number w64 (2 ^ 64) wide64) };
 
+    ghost shape = { 31 ∷ [] };
+
+    ghost asks = { false };
+
+    fn shape_at(at: usize) -> Result<u8, usize> {
+        shape_alone(31, at)
+    }
+
     fn encode(&self, out: &mut Vec<u8>) -> Result<(), AllocError> {
         self.inx().encode(out)
     }
@@ -162,6 +219,14 @@ impl Codec for P5 {
     ghost content = { λ p. (suc p, 1) };
 
     ghost coding = { bare_pointer byte };
+
+    ghost shape = { 32 ∷ [] };
+
+    ghost asks = { false };
+
+    fn shape_at(at: usize) -> Result<u8, usize> {
+        shape_alone(32, at)
+    }
 
     fn encode(&self, out: &mut Vec<u8>) -> Result<(), AllocError> {
         self.inx().encode(out)
@@ -185,6 +250,17 @@ where
 
     ghost coding = { both I.NonZero.coding G.NonZero.numbered };
 
+    ghost shape = { 33 ∷ G.NonZero.width ∷ I.NonZero.shape };
+
+    ghost asks = { I.NonZero.asks };
+
+    fn shape_at(at: usize) -> Result<u8, usize> {
+        if at == 0 {
+            return Ok(33);
+        }
+        shape_over::<I::NonZero>(G::NonZero::width(), at - 1)
+    }
+
     // The trait's clauses are written out here and below, since inheriting them makes each call dearer to
     // prove.
     fn encode(&self, out: &mut Vec<u8>) -> Result<(), AllocError>
@@ -207,6 +283,7 @@ where
           x.1.now,
         )) result
             ((both I.NonZero.coding G.NonZero.numbered).decoding bytes.now) }
+        ensures memory { IfErr result (λ e. MayFail I.NonZero.asks e) }
     {
         let (inx, rest) = I::NonZero::decode(alloc, bytes)?;
         let (generation, rest) = G::NonZero::decode_generation(alloc, rest)?;
@@ -222,6 +299,14 @@ impl<I: PtrInx + Codec, P: Ptr<Inx = I>> Codec for PtrNoGen<P, I> {
 
     ghost coding = { I.coding };
 
+    ghost shape = { 34 ∷ I.shape };
+
+    ghost asks = { I.asks };
+
+    fn shape_at(at: usize) -> Result<u8, usize> {
+        shape_over::<I>(34, at)
+    }
+
     fn encode(&self, out: &mut Vec<u8>) -> Result<(), AllocError>
         ensures written { OnOk result
             (out.new.items ≡ out.old.items ++ I.coding.encoding (I.content self.now)) }
@@ -232,6 +317,7 @@ impl<I: PtrInx + Codec, P: Ptr<Inx = I>> Codec for PtrNoGen<P, I> {
 
     fn decode(alloc: Global, bytes: &[u8]) -> Result<(Self, &[u8]), DecodeError>
         ensures read { Gives (λ x. (I.content x.0, x.1.now)) result (I.coding.decoding bytes.now) }
+        ensures memory { IfErr result (λ e. MayFail I.asks e) }
     {
         let (inx, rest) = I::decode(alloc, bytes)?;
         Ok((PtrNoGen::_from_raw(inx, ()), rest))
@@ -245,6 +331,14 @@ impl<P: Ptr + Codec, const KIND: usize> Codec for PtrKind<P, KIND> {
     ghost content = { P.content };
 
     ghost coding = { P.coding };
+
+    ghost shape = { 35 ∷ P.shape };
+
+    ghost asks = { P.asks };
+
+    fn shape_at(at: usize) -> Result<u8, usize> {
+        shape_over::<P>(35, at)
+    }
 
     fn encode(&self, out: &mut Vec<u8>) -> Result<(), AllocError> {
         self.ptr().encode(out)

@@ -6,13 +6,15 @@ ghost use Rattle.std.specs.Option.{option_map};
 ghost use Rattle.triple_arena_traits.specs.ArenaState.{map_entry};
 ghost use Rattle.triple_arena_snapshot.specs.ArenaCodings.{arena_content};
 ghost use Rattle.triple_arena_snapshot.specs.ArenaLayouts.{arena_coding, direct_arena_coding};
+ghost use Rattle.triple_arena_snapshot.specs.Shapes.{arena_shape, direct_arena_shape};
 ghost use Rattle.triple_arena_snapshot.specs.Files.{file_of, AppendsPart, SaveFails};
 
 use crate::arenas::encode_arena;
+use crate::checksum::crc32c_of_both;
 use crate::codec::{Codec, to_bytes};
 use crate::direct_arenas::encode_direct_arena;
 use crate::fault::SaveError;
-use crate::file::{head_of, put_seal};
+use crate::file::head_of;
 use crate::generations::GenerationCodec;
 use std::alloc::Global;
 use std::io::{ErrorKind, Write};
@@ -33,16 +35,16 @@ const MOST_TRIES: u64 = 4294967296;
 /// tells its bytes.
 pub fn save<T: Codec, W: Write>(value: &T, alloc: Global, output: &mut W) -> Result<(), SaveError>
     ensures written { OnOk result (Appends (W.contents output.old) (W.contents output.new)
-        (file_of (T.coding.encoding (T.content value.now)))) }
+        (file_of T.shape (T.coding.encoding (T.content value.now)))) }
     ensures fits { OnOk result (T.coding.fits (T.content value.now)) }
     ensures refused { IfErr result (λ e. SaveFails e (W.contents output.old) (W.contents output.new)
-        (file_of (T.coding.encoding (T.content value.now)))) }
+        (file_of T.shape (T.coding.encoding (T.content value.now)))) }
 {
     let payload = match to_bytes(value, alloc) {
         Ok(payload) => payload,
         Err(_) => return Err(SaveError::Memory),
     };
-    write_file(&payload, alloc, output)
+    write_file::<T, W>(&[], &payload, alloc, output)
 }
 
 /// Writes the file of an arena over any stack, as [`save`] does.
@@ -54,20 +56,16 @@ pub fn save_arena<P: Ptr, T: Codec, S: NonZeroInxGenericStack<ArenaSlot<P, T>>, 
 where
     P::Gen: GenerationCodec,
     ensures written { OnOk result (Appends (W.contents output.old) (W.contents output.new)
-        (file_of ((arena_coding P.Inx.greatest P.Gen.width arena.now.limit P.Gen.numbered T.coding).encoding
+        (file_of (arena_shape T.shape) ((arena_coding P.Inx.greatest P.Gen.width arena.now.limit P.Gen.numbered T.coding).encoding
         (arena_content T.content arena.now)))) }
     ensures fits { OnOk result
         ((arena_coding P.Inx.greatest P.Gen.width arena.now.limit P.Gen.numbered T.coding).fits
         (arena_content T.content arena.now)) }
     ensures refused { IfErr result (λ e. SaveFails e (W.contents output.old) (W.contents output.new)
-        (file_of ((arena_coding P.Inx.greatest P.Gen.width arena.now.limit P.Gen.numbered T.coding).encoding
+        (file_of (arena_shape T.shape) ((arena_coding P.Inx.greatest P.Gen.width arena.now.limit P.Gen.numbered T.coding).encoding
         (arena_content T.content arena.now)))) }
 {
-    let payload = match arena_bytes(arena, alloc) {
-        Ok(payload) => payload,
-        Err(_) => return Err(SaveError::Memory),
-    };
-    write_file(&payload, alloc, output)
+    save_arena_as(&[37], arena, alloc, output)
 }
 
 /// Writes the file of a direct arena over any stack, as [`save`] does.
@@ -79,20 +77,46 @@ pub fn save_direct_arena<P: Ptr, T: Codec, S: NonZeroInxGenericStack<DirectSlot<
 where
     P::Gen: GenerationCodec,
     ensures written { OnOk result (Appends (W.contents output.old) (W.contents output.new)
-        (file_of ((direct_arena_coding P.Inx.greatest P.Gen.width arena.now.limit P.Gen.numbered T.coding).encoding
+        (file_of (direct_arena_shape T.shape) ((direct_arena_coding P.Inx.greatest P.Gen.width arena.now.limit P.Gen.numbered T.coding).encoding
         (map (option_map (map_entry T.content)) arena.now.slots)))) }
     ensures fits { OnOk result
         ((direct_arena_coding P.Inx.greatest P.Gen.width arena.now.limit P.Gen.numbered T.coding).fits
         (map (option_map (map_entry T.content)) arena.now.slots)) }
     ensures refused { IfErr result (λ e. SaveFails e (W.contents output.old) (W.contents output.new)
-        (file_of ((direct_arena_coding P.Inx.greatest P.Gen.width arena.now.limit P.Gen.numbered T.coding).encoding
+        (file_of (direct_arena_shape T.shape) ((direct_arena_coding P.Inx.greatest P.Gen.width arena.now.limit P.Gen.numbered T.coding).encoding
         (map (option_map (map_entry T.content)) arena.now.slots)))) }
 {
     let payload = match direct_arena_bytes(arena, alloc) {
         Ok(payload) => payload,
         Err(_) => return Err(SaveError::Memory),
     };
-    write_file(&payload, alloc, output)
+    write_file::<T, W>(&[38], &payload, alloc, output)
+}
+
+// Writes the file of an arena, of which these bytes and the shape of its values tell.
+pub(crate) fn save_arena_as<P: Ptr, T: Codec, S: NonZeroInxGenericStack<ArenaSlot<P, T>>, W: Write>(
+    outer: &[u8],
+    arena: &Arena<P, T, S>,
+    alloc: Global,
+    output: &mut W,
+) -> Result<(), SaveError>
+where
+    P::Gen: GenerationCodec,
+    ensures written { OnOk result (Appends (W.contents output.old) (W.contents output.new)
+        (file_of (outer.now ++ T.shape) ((arena_coding P.Inx.greatest P.Gen.width arena.now.limit P.Gen.numbered T.coding).encoding
+        (arena_content T.content arena.now)))) }
+    ensures fits { OnOk result
+        ((arena_coding P.Inx.greatest P.Gen.width arena.now.limit P.Gen.numbered T.coding).fits
+        (arena_content T.content arena.now)) }
+    ensures refused { IfErr result (λ e. SaveFails e (W.contents output.old) (W.contents output.new)
+        (file_of (outer.now ++ T.shape) ((arena_coding P.Inx.greatest P.Gen.width arena.now.limit P.Gen.numbered T.coding).encoding
+        (arena_content T.content arena.now)))) }
+{
+    let payload = match arena_bytes(arena, alloc) {
+        Ok(payload) => payload,
+        Err(_) => return Err(SaveError::Memory),
+    };
+    write_file::<T, W>(outer, &payload, alloc, output)
 }
 
 // The bytes of an arena.
@@ -134,17 +158,22 @@ where
 }
 
 // Writes the file of a value's bytes.
-fn write_file<W: Write>(payload: &[u8], alloc: Global, output: &mut W) -> Result<(), SaveError>
-    ensures written { OnOk result
-        (Appends (W.contents output.old) (W.contents output.new) (file_of payload.now)) }
-    ensures refused { IfErr result (λ e.
-        SaveFails e (W.contents output.old) (W.contents output.new) (file_of payload.now)) }
+fn write_file<T: Codec, W: Write>(
+    outer: &[u8],
+    payload: &[u8],
+    alloc: Global,
+    output: &mut W,
+) -> Result<(), SaveError>
+    ensures written { OnOk result (Appends (W.contents output.old) (W.contents output.new)
+        (file_of (outer.now ++ T.shape) payload.now)) }
+    ensures refused { IfErr result (λ e. SaveFails e (W.contents output.old)
+        (W.contents output.new) (file_of (outer.now ++ T.shape) payload.now)) }
 {
-    let head = head_of(payload.len(), alloc)?;
-    let mut sums = Vec::new(alloc);
-    put_seal(payload, &mut sums)?;
+    let head = head_of::<T>(outer, payload.len(), alloc)?;
+    let mut sum = Vec::new(alloc);
+    crc32c_of_both(&head, payload).encode(&mut sum)?;
     let front = head.as_slice();
-    let back = sums.as_slice();
+    let back = sum.as_slice();
     write_parts(front, payload, back, output)
 }
 

@@ -57,7 +57,7 @@ module _ {K : Type 0} (fits : K → Type 0) (encoding : K → List ℕ) (decodin
       ap (pair_at_front decoding decoding_too) (append_assoc (encoding p.0) (second p.1) rest)
       ∙ rw (again p.0 (second p.1 ++ rest) h.0, again_too p.1 rest h.1) refl
 
-  many_again : (ks : List K) (rest : List ℕ) → AllByRecursion fits ks → many_at_front decoding (length ks) (flat_map encoding ks ++ rest) ≡ Ok (ks, rest)
+  pub many_again : (ks : List K) (rest : List ℕ) → AllByRecursion fits ks → many_at_front decoding (length ks) (flat_map encoding ks ++ rest) ≡ Ok (ks, rest)
   many_again [] rest h = refl
   many_again (k ∷ ks) rest h =
       ap (many_at_front decoding (suc (length ks))) (ap (λ (x : List ℕ). x ++ rest) (flat_map-cons encoding k ks) ∙ append_assoc (encoding k) (flat_map encoding ks) rest)

@@ -1,5 +1,5 @@
 use Rattle.std.proofs.Common.{◌≡◌, drop}
-use Rattle.triple_arena_snapshot.specs.Files.{behind}
+use Rattle.triple_arena_snapshot.specs.Marks.{behind}
 use Rattle.triple_arena_snapshot.proofs.file.behind.Given as goal
 
 abbrev pub invariant-loop-m : goal.invariant-loop-m

@@ -1,13 +1,14 @@
 use Rattle.std.proofs.Common.{◌∙◌}
+use Rattle.triple_arena_snapshot.specs.Shapes.{direct_arena_shape}
 use Rattle.triple_arena_snapshot.proofs.Writes.{same_file, same_refused}
 use Rattle.triple_arena_snapshot.proofs.saving.save_direct_arena.Goals as goal
 
 pub returns-clause-written : goal.returns-clause-written
 returns-clause-written g c =
     let held = g.W.Write.contents in
-    same_file c.write_file.result (held c.args.output.now) (held c.write_file.new.output) c.deref.result.now _ (c.deref.ensures.value ∙ c.in-Ok.ensures.written) c.write_file.ensures.written
+    same_file c.write_file.result (held c.args.output.now) (held c.write_file.new.output) (direct_arena_shape g.T.Codec.shape) c.deref.result.now _ (c.deref.ensures.value ∙ c.in-Ok.ensures.written) c.write_file.ensures.written
 
 pub returns-clause-refused : goal.returns-clause-refused
 returns-clause-refused g c =
     let held = g.W.Write.contents in
-    same_refused c.write_file.result (held c.args.output.now) (held c.write_file.new.output) c.deref.result.now _ (c.deref.ensures.value ∙ c.in-Ok.ensures.written) c.write_file.ensures.refused
+    same_refused c.write_file.result (held c.args.output.now) (held c.write_file.new.output) (direct_arena_shape g.T.Codec.shape) c.deref.result.now _ (c.deref.ensures.value ∙ c.in-Ok.ensures.written) c.write_file.ensures.refused

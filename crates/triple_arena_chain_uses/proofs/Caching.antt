@@ -8,7 +8,7 @@ use Rattle.std.proofs.lemmas.List.{append-nil}
 use Rattle.std.proofs.lemmas.Bool.{eq-eqb}
 use Rattle.std.specs.Map.{lookup, remove_entry}
 use Rattle.std.specs.Option.{option_and_then, option_map}
-use Rattle.triple_arena_ptr.specs.Pointers.{Pointer}
+use Rattle.triple_arena_chain.specs.Pointers.{Pointer}
 use Rattle.triple_arena_chain.specs.declared.place.ChainError.{ChainError}
 use Rattle.triple_arena_chain.specs.declared.place.ChainError.TheVariants.{NoEntry, Taken, NoRoom, NoMemory}
 use Rattle.triple_arena_stack.specs.Capacity.{IsFullAtLimit, IsAtLimit}

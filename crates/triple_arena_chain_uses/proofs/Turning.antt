@@ -4,7 +4,7 @@ use Rattle.std.proofs.Common.{◌≡◌, ◌≢◌, ◌⊎◌, ℕ, zero, suc, �
 use Rattle.std.proofs.lemmas.Bool.{eqb-true, eq-eqb}
 use Rattle.std.specs.Map.{remove_entry}
 use Rattle.std.specs.Option.{option_map}
-use Rattle.triple_arena_ptr.specs.Pointers.{Pointer}
+use Rattle.triple_arena_chain.specs.Pointers.{Pointer}
 use Rattle.triple_arena_chain.specs.Chains.{Node, value_at, after_at, IsInserted, IsRemoved, IsRun}
 use Rattle.triple_arena_chain_uses.specs.Cache.{IsOrder}
 use Rattle.triple_arena_chain.specs.laws.LinkLaws.{same_pointer, between_after, linked_inserted, linked_removed}

@@ -3,7 +3,7 @@ use Rattle.std.specs.Prelude.{◌≡◌, ℕ, zero, suc, ◌+◌, ◌≤◌, ◌
 use Rattle.std.specs.HashMap.{HashMap, get}
 use Rattle.std.specs.Map.{lookup, remove_entry}
 use Rattle.std.specs.Option.{option_map, option_and_then}
-use Rattle.triple_arena_ptr.specs.Pointers.{Pointer}
+use Rattle.triple_arena_chain.specs.Pointers.{Pointer}
 use Rattle.triple_arena_chain.specs.Chains.{Node, value_at, after_at, IsLinked, IsRun}
 
 -- what a cache has: each key with its value, the last used first; and how many it keeps at most

@@ -12,9 +12,7 @@ use std::alloc::Global;
 use std::collections::HashMap;
 use std::marker::Model;
 use std::num::NonZeroUsize;
-use triple_arena::Arena;
-use triple_arena_chain::{ChainError, Chains, Link, Place};
-use triple_arena_ptr::{P0, Ptr};
+use triple_arena_chain::{ChainError, Chains, P0, Place, Ptr};
 
 /// Values under keys, of which it keeps those last used, and at most so many.
 ///
@@ -26,14 +24,14 @@ use triple_arena_ptr::{P0, Ptr};
 #[derive(Drop)]
 pub struct Cache<T> {
     places: HashMap<u64, P0>,
-    uses: Chains<P0, Option<(u64, T)>, Arena<P0, Link<P0, Option<(u64, T)>>>>,
+    uses: Chains<P0, Option<(u64, T)>>,
     bare: P0,
     most: usize,
 }
 
 impl<T> Model for Cache<T> {
     ghost use Rattle.std.specs.Prelude.{◌≡◌, List, None};
-    ghost use Rattle.triple_arena_ptr.specs.Pointers.{Pointer};
+    ghost use Rattle.triple_arena_chain.specs.Pointers.{Pointer};
     ghost use Rattle.triple_arena_chain.specs.Chains.{nodes, after_at};
     ghost use Rattle.triple_arena_chain_uses.specs.Cache.{CacheState, uses_from, place_in, IsOrder};
 

@@ -162,6 +162,10 @@ CellsAreThere wiring = AllResolve p0_numbers wiring.cells.slots cells_in_net.hel
 abbrev pub NetsAreThere : Wiring → Type 0
 NetsAreThere wiring = AllResolve q2_numbers wiring.nets.slots nets_in_cell.held wiring.cells.slots
 
+pub record EndsAreThere (wiring : Wiring) : Type 0 where
+  pub cells_there : CellsAreThere wiring
+  pub nets_there : NetsAreThere wiring
+
 -- why the cells stay where they are: a net leads to one that isn't there, or memory was refused, and there is one; why the
 -- nets do; and why both do
 abbrev pub CellsStay : Wiring → CompactError P0 → Type 0

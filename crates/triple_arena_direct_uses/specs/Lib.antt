@@ -9,3 +9,4 @@ pub mod Notes
 pub mod Netlist
 pub mod Office
 pub mod Tickets
+pub mod Unchanged

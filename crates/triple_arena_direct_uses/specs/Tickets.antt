@@ -1,9 +1,11 @@
 -- The tickets of leases.
-use Rattle.std.specs.Prelude.{ℕ, suc, ◌+◌, ◌-◌, ◌*◌, ◌^◌, ◌==◌, Bool, not, cond}
+use Rattle.std.specs.Prelude.{◌≡◌, ◌≢◌, ℕ, suc, ◌+◌, ◌-◌, ◌*◌, ◌^◌, ◌==◌, Bool, false, not, cond, Some, None, IsSome}
 use Rattle.triple_arena_ptr.specs.Numbers.{counting_to}
 use Rattle.triple_arena_ptr.specs.Pointers.{Pointer}
-use Rattle.triple_arena.specs.ArenaState.{ArenaState}
+use Rattle.triple_arena.specs.ArenaState.{ArenaState, arena_len}
 use Rattle.triple_arena.specs.Compression.{rank}
+use Rattle.triple_arena.specs.Entries.{look_up}
+use Rattle.triple_arena_direct.specs.Gone.{IsGoneForGood}
 use Rattle.triple_arena_direct.specs.StrictAnswers.{is_exhausted}
 use Rattle.triple_arena_direct_uses.specs.declared.ticket.Ticket.{Ticket}
 use Rattle.triple_arena_direct_uses.specs.declared.leases.Lease.{Lease}
@@ -35,3 +37,16 @@ in_hands_of other lease = record lease { holder = other.holder }
 -- whether a lease is in other hands than this holder's
 abbrev pub is_of_another : (holder : ℕ) → Pointer → Lease → Bool
 is_of_another holder ticket lease = not (lease.holder == holder)
+
+-- a lease was issued: its ticket finds it, which no lease had that has ended, and none has that has not
+pub record IsIssued (old : ArenaState Lease) (lease : Lease) (ticket : Pointer) (after : ArenaState Lease) : Type 0 where
+  pub found : look_up after.slots ticket ≡ Some lease
+  pub free : look_up old.slots ticket ≡ None
+  pub new : (q : Pointer) → IsGoneForGood old q → ticket ≢ q
+  pub others : (q : Pointer) → q ≢ ticket → look_up after.slots q ≡ look_up old.slots q
+
+-- the same leases stand in another registry, under new tickets, which aren't used up
+pub record IsRenewed (old after : ArenaState Lease) : Type 0 where
+  pub found : (q : Pointer) → IsSome (look_up old.slots q) → look_up after.slots (anew old q) ≡ look_up old.slots q
+  pub count : arena_len after ≡ arena_len old
+  pub usable : are_used_up after ≡ false

@@ -10,13 +10,14 @@ ghost use Rattle.triple_arena_base.specs.HeldPairs.{held_both, refill_both, both
 ghost use Rattle.triple_arena_base.specs.Invalidation.{allowed_option};
 ghost use Rattle.triple_arena_ptr.specs.Pointers.{Pointer};
 ghost use Rattle.triple_arena.specs.ArenaState.{arena_len};
-ghost use Rattle.triple_arena.specs.Ending.{told};
 ghost use Rattle.triple_arena.specs.Entries.{look_up};
 ghost use Rattle.triple_arena.specs.Walks.{values};
-ghost use Rattle.triple_arena_direct.specs.Renaming.{MapsPointers, first_unresolved, Refuses, IsRenamed, IsFoundRenamed};
+ghost use Rattle.triple_arena_direct.specs.Compacted.{TellsMap, ResolveBoth};
+ghost use Rattle.triple_arena_direct.specs.Renaming.{first_unresolved, Refuses, IsRenamed, IsFoundRenamed};
 ghost use Rattle.triple_arena_uses.specs.Entities.{p0_numbers};
 ghost use Rattle.triple_arena_direct_uses.specs.Circuit.{moved, moving_wraps};
 ghost use Rattle.triple_arena_direct_uses.specs.Holders.{named_held, named_refill, named_held_refill, named_refill_held, named_refill_refill};
+ghost use Rattle.triple_arena_direct_uses.specs.Unchanged.{AreUnchanged, AllUnchanged};
 
 use std::alloc::Global;
 use triple_arena::Arena;
@@ -128,11 +129,10 @@ pub fn compact_with_border(
     border: &mut LinkBorder,
     alloc: Global,
 ) -> Result<InvalidationOption<DirectArena<P0, P0>>, CompactError<P0>>
-    ensures answer { IfOk result (λ answer. answer
-        ≡ told (moving_wraps links.old) (allowed_option answer)) }
-    ensures maps { IfOk result (λ answer. MapsPointers p0_numbers (moved links.old)
-        links.old.slots (allowed_option answer).slots) }
-    ensures count { arena_len links.new ≡ arena_len links.old }
+    // Done: the map leads from the old pointers to the new ones, under which stands what stood under the
+    // old ones, renamed, as in the border. Each pointer found a link.
+    ensures map { IfOk result (TellsMap p0_numbers (moved links.old) links.old.slots
+        (moving_wraps links.old)) }
     ensures links { OnOk result ((p : Pointer) → IsSome (look_up links.old.slots p)
         → IsFoundRenamed p0_numbers (moved links.old)
         ⟦<Link as Recast<P0>>⟧.held ⟦<Link as Recast<P0>>⟧.refill
@@ -143,12 +143,16 @@ pub fn compact_with_border(
     ensures resolved { OnOk result (first_unresolved p0_numbers links.old.slots
         (held_all ⟦<Link as Recast<P0>>⟧.held (values links.old.slots)
         ++ ⟦<Border<Vec<Port<P0>>, Names> as Recast<P0>>⟧.held border.old) ≡ None) }
+
+    // Refused: nothing has changed, and the error tells why.
+    ensures refused { OnErr result (AreUnchanged links.old links.new border.old border.new) }
     ensures refusal { IfErr result (Refuses (arena_len links.old)
         (first_unresolved p0_numbers links.old.slots
         (held_all ⟦<Link as Recast<P0>>⟧.held (values links.old.slots)
         ++ ⟦<Border<Vec<Port<P0>>, Names> as Recast<P0>>⟧.held border.old))) }
-    ensures links_refused { OnErr result (links.new ≡ links.old) }
-    ensures border_refused { OnErr result (border.new ≡ border.old) }
+
+    // In each case links are as many as before.
+    ensures count { arena_len links.new ≡ arena_len links.old }
 {
     compress_recast_with(links, border, alloc, false)
 }
@@ -161,11 +165,10 @@ pub fn compact_with_two<T: Recast<P0>, H: Recast<P0>, K: Recast<P0>>(
     second: &mut K,
     alloc: Global,
 ) -> Result<InvalidationOption<DirectArena<P0, P0>>, CompactError<P0>>
-    ensures answer { IfOk result (λ answer. answer
-        ≡ told (moving_wraps arena.old) (allowed_option answer)) }
-    ensures maps { IfOk result (λ answer. MapsPointers p0_numbers (moved arena.old)
-        arena.old.slots (allowed_option answer).slots) }
-    ensures count { arena_len arena.new ≡ arena_len arena.old }
+    // Done: the map leads from the old pointers to the new ones, under which stands what stood under the
+    // old ones, renamed, as in both holders. Each pointer of these found an entry.
+    ensures map { IfOk result (TellsMap p0_numbers (moved arena.old) arena.old.slots
+        (moving_wraps arena.old)) }
     ensures found { OnOk result ((p : Pointer) → IsSome (look_up arena.old.slots p)
         → IsFoundRenamed p0_numbers (moved arena.old) T.held T.refill
         (look_up arena.old.slots p) (look_up arena.new.slots (moved arena.old p))) }
@@ -173,16 +176,19 @@ pub fn compact_with_two<T: Recast<P0>, H: Recast<P0>, K: Recast<P0>>(
         H.held H.refill first.old first.new) }
     ensures second { OnOk result (IsRenamed p0_numbers (moved arena.old)
         K.held K.refill second.old second.new) }
-    ensures first_resolved { OnOk result
-        (first_unresolved p0_numbers arena.old.slots (H.held first.old) ≡ None) }
-    ensures second_resolved { OnOk result
-        (first_unresolved p0_numbers arena.old.slots (K.held second.old) ≡ None) }
+    ensures resolved { OnOk result (ResolveBoth
+        (first_unresolved p0_numbers arena.old.slots (H.held first.old))
+        (first_unresolved p0_numbers arena.old.slots (K.held second.old))) }
+
+    // Refused: nothing has changed, and the error tells why.
+    ensures refused { OnErr result
+        (AllUnchanged arena.old arena.new first.old first.new second.old second.new) }
     ensures refusal { IfErr result (Refuses (arena_len arena.old)
         (first_unresolved p0_numbers arena.old.slots (H.held first.old
         ++ (K.held second.old ++ held_all T.held (values arena.old.slots))))) }
-    ensures refused { OnErr result (arena.new ≡ arena.old) }
-    ensures first_refused { OnErr result (first.new ≡ first.old) }
-    ensures second_refused { OnErr result (second.new ≡ second.old) }
+
+    // In each case entries are as many as before.
+    ensures count { arena_len arena.new ≡ arena_len arena.old }
 {
     if let Some(p) = unresolved(arena, first) {
         return Err(CompactError::Unresolved(p));

@@ -1,18 +1,20 @@
 //! Labels of cells and nets, beside two arenas that point at each other: all three follow one compaction,
 //! or nothing changes.
 
-ghost use Rattle.std.specs.Prelude.{◌≡◌, ◌++◌, IsSome, OnOk, OnErr, map};
+ghost use Rattle.std.specs.Prelude.{◌++◌, IsSome, IfOk, OnOk, OnErr};
 ghost use Rattle.std.specs.Result.{IfErr};
 ghost use Rattle.triple_arena_base.specs.Held.{held_all};
 ghost use Rattle.triple_arena_ptr.specs.Pointers.{Pointer};
 ghost use Rattle.triple_arena.specs.ArenaState.{arena_len};
 ghost use Rattle.triple_arena.specs.Entries.{look_up};
 ghost use Rattle.triple_arena.specs.Walks.{values};
-ghost use Rattle.triple_arena_direct.specs.Concrete.{p0_numbers, q2_numbers, moved};
+ghost use Rattle.triple_arena_direct.specs.Compacted.{TellsMap};
+ghost use Rattle.triple_arena_direct.specs.Concrete.{p0_numbers, q2_numbers, moved, moving_wraps};
 ghost use Rattle.triple_arena_direct.specs.Renaming.{first_unresolved};
 ghost use Rattle.triple_arena_direct.specs.RenamingBoth.{IsRenamedBoth, IsFoundRenamedBoth, RefusesBoth};
 ghost use Rattle.triple_arena_direct_uses.specs.Circuit.{cells_in_cell, nets_in_cell, cells_in_net, nets_in_net};
-ghost use Rattle.triple_arena_direct_uses.specs.Labels.{cells_labelled, nets_labelled, label_read, label_renamed};
+ghost use Rattle.triple_arena_direct_uses.specs.Labels.{cells_labelled, nets_labelled, AreReadRenamed};
+ghost use Rattle.triple_arena_direct_uses.specs.Unchanged.{AllUnchanged};
 
 use crate::circuit::{Cell, Net};
 use std::alloc::Global;
@@ -63,7 +65,7 @@ impl Recast<Q2> for Labels {
 }
 
 /// Moves the cells and the nets to the indexes from 1 on, and renames each pointer that they or the
-/// labels hold, so that each label leads to what it led to.
+/// labels hold, so that each label leads to what it led to. The maps tell the new pointers.
 ///
 /// Where memory is refused, and else exactly where a pointer finds nothing, nothing changes, in either
 /// arena or in the labels.
@@ -79,6 +81,12 @@ pub fn compact_labelled(
     ),
     CompactBothError<P0, Q2>,
 >
+    // Done: the maps lead from the old pointers to the new ones, and under the new one stands what
+    // stood under the old one, renamed, as in the labels: each leads to what it led to.
+    ensures cell_map { IfOk result (λ maps. TellsMap p0_numbers (moved cells.old)
+        cells.old.slots (moving_wraps cells.old) maps.0) }
+    ensures net_map { IfOk result (λ maps. TellsMap q2_numbers (moved nets.old)
+        nets.old.slots (moving_wraps nets.old) maps.1) }
     ensures cells { OnOk result ((c : Pointer) → IsSome (look_up cells.old.slots c)
         → IsFoundRenamedBoth p0_numbers (moved cells.old) cells_in_cell.held cells_in_cell.refill
         q2_numbers (moved nets.old) nets_in_cell.held nets_in_cell.refill
@@ -90,10 +98,12 @@ pub fn compact_labelled(
     ensures labels { OnOk result (IsRenamedBoth
         p0_numbers (moved cells.old) cells_labelled.held cells_labelled.refill
         q2_numbers (moved nets.old) nets_labelled.held nets_labelled.refill labels.old labels.new) }
-    ensures labels_of_cells { OnOk result (map (label_read p0_numbers) labels.new.cells.items
-        ≡ map (label_renamed (moved cells.old)) (map (label_read p0_numbers) labels.old.cells.items)) }
-    ensures labels_of_nets { OnOk result (map (label_read q2_numbers) labels.new.nets.items
-        ≡ map (label_renamed (moved nets.old)) (map (label_read q2_numbers) labels.old.nets.items)) }
+    ensures read { OnOk result (AreReadRenamed (moved cells.old) (moved nets.old)
+        labels.old labels.new) }
+
+    // Refused: nothing has changed, and the error tells why.
+    ensures refused { OnErr result
+        (AllUnchanged cells.old cells.new nets.old nets.new labels.old labels.new) }
     ensures refusal { IfErr result (RefusesBoth
         (arena_len cells.old) (first_unresolved p0_numbers cells.old.slots
         ((held_all cells_in_cell.held (values cells.old.slots)
@@ -103,9 +113,6 @@ pub fn compact_labelled(
         ((held_all nets_in_net.held (values nets.old.slots)
         ++ held_all nets_in_cell.held (values cells.old.slots))
         ++ nets_labelled.held labels.old))) }
-    ensures cells_refused { OnErr result (cells.new ≡ cells.old) }
-    ensures nets_refused { OnErr result (nets.new ≡ nets.old) }
-    ensures labels_refused { OnErr result (labels.new ≡ labels.old) }
 {
     compress_recast_both_with(cells, nets, labels, alloc, false)
 }

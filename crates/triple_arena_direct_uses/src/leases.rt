@@ -16,7 +16,7 @@ ghost use Rattle.triple_arena_direct.specs.Gone.{IsGoneForGood};
 ghost use Rattle.triple_arena_direct.specs.Renaming.{first_unresolved, Refuses, IsUnresolved};
 ghost use Rattle.triple_arena_direct.specs.StrictAnswers.{strict_of, strict_all};
 ghost use Rattle.triple_arena_direct.specs.laws.RetainLaws.{kept_if};
-ghost use Rattle.triple_arena_direct_uses.specs.Tickets.{ticket_numbers, are_used_up, anew, handed, number_of, in_hands_of, is_of_another};
+ghost use Rattle.triple_arena_direct_uses.specs.Tickets.{ticket_numbers, are_used_up, anew, handed, number_of, in_hands_of, is_of_another, IsIssued, IsRenewed};
 
 use crate::ticket::Ticket;
 use std::alloc::Global;
@@ -105,18 +105,16 @@ impl Leases {
     /// Refused only where there is no place, and memory is refused or each index has a lease; then
     /// nothing changes.
     pub fn issue(&mut self, lease: Lease) -> Result<Ticket, ReallocationError>
-        ensures found { IfOk result
-            (λ ticket. look_up self.new.slots (ticket_numbers ticket) ≡ Some lease) }
-        ensures free { IfOk result (λ ticket. look_up self.old.slots (ticket_numbers ticket)
-            ≡ None) }
-        ensures new { IfOk result
-            (λ ticket. (q : Pointer) → IsGoneForGood self.old q → ticket_numbers ticket ≢ q) }
-        ensures others { IfOk result (λ ticket. (q : Pointer) → q ≢ ticket_numbers ticket
-            → look_up self.new.slots q ≡ look_up self.old.slots q) }
-        ensures stays_gone { (q : Pointer) → IsGoneForGood self.old q → IsGoneForGood self.new q }
-        ensures counter { self.new.counter ≡ self.old.counter }
+        ensures issued { IfOk result
+            (λ ticket. IsIssued self.old lease (ticket_numbers ticket) self.new) }
+
+        // Refused: nothing changes, and there was no place.
         ensures had_place { arena_len self.old < capacity self.old → IsOk result }
         ensures refused { OnErr result (self.new ≡ self.old) }
+
+        // In each case what was gone for good stays so.
+        ensures stays_gone { (q : Pointer) → IsGoneForGood self.old q → IsGoneForGood self.new q }
+        ensures counter { self.new.counter ≡ self.old.counter }
     {
         self.leases.insert(lease)
     }
@@ -127,20 +125,19 @@ impl Leases {
     ///
     /// Refused as [`Self::issue`]; then nothing changes.
     pub fn issue_numbered(&mut self, holder: u32) -> Result<Ticket, ReallocationError>
-        ensures found { IfOk result (λ ticket. look_up self.new.slots (ticket_numbers ticket)
-            ≡ Some (record { item = number_of (ticket_numbers ticket); holder = holder })) }
+        ensures issued { IfOk result (λ ticket. IsIssued self.old
+            (record { item = number_of (ticket_numbers ticket); holder = holder })
+            (ticket_numbers ticket) self.new) }
         ensures number { IfOk result (λ ticket. (q : Pointer) → q.1 < 2 ^ 8
             → number_of q ≡ number_of (ticket_numbers ticket) → q ≡ ticket_numbers ticket) }
-        ensures free { IfOk result (λ ticket. look_up self.old.slots (ticket_numbers ticket)
-            ≡ None) }
-        ensures new { IfOk result
-            (λ ticket. (q : Pointer) → IsGoneForGood self.old q → ticket_numbers ticket ≢ q) }
-        ensures others { IfOk result (λ ticket. (q : Pointer) → q ≢ ticket_numbers ticket
-            → look_up self.new.slots q ≡ look_up self.old.slots q) }
-        ensures stays_gone { (q : Pointer) → IsGoneForGood self.old q → IsGoneForGood self.new q }
-        ensures counter { self.new.counter ≡ self.old.counter }
+
+        // Refused: nothing changes, and there was no place.
         ensures had_place { arena_len self.old < capacity self.old → IsOk result }
         ensures refused { OnErr result (self.new ≡ self.old) }
+
+        // In each case what was gone for good stays so.
+        ensures stays_gone { (q : Pointer) → IsGoneForGood self.old q → IsGoneForGood self.new q }
+        ensures counter { self.new.counter ≡ self.old.counter }
     {
         match self.leases.entry_insert() {
             Ok(place) => {
@@ -253,8 +250,8 @@ impl Leases {
         kept: &mut Vec<Ticket>,
         alloc: Global,
     ) -> Result<Leases, (Leases, CompactError<Ticket>)>
-        ensures found { IfOk result (λ new. (q : Pointer) → IsSome (look_up self.slots q)
-            → look_up new.slots (anew self q) ≡ look_up self.slots q) }
+        // Done: the leases have new tickets, and each kept ticket is its new one.
+        ensures renewed { IfOk result (IsRenewed self) }
         ensures kept { IfOk result (λ new.
             map (λ ticket. look_up new.slots (ticket_numbers ticket)) kept.new.items
             ≡ map (λ ticket. look_up self.slots (ticket_numbers ticket)) kept.old.items) }
@@ -262,8 +259,8 @@ impl Leases {
             ≡ map (anew self) (map ticket_numbers kept.old.items)) }
         ensures resolved { OnOk result
             (first_unresolved ticket_numbers self.slots kept.old.items ≡ None) }
-        ensures count { IfOk result (λ new. arena_len new ≡ arena_len self) }
-        ensures usable { IfOk result (λ new. are_used_up new ≡ false) }
+
+        // Refused: the registry and the tickets are as they were, and the error tells why.
         ensures refusal { IfErr result (λ old. Refuses (arena_len self)
             (first_unresolved ticket_numbers self.slots kept.old.items) old.1) }
         ensures stray_first { IfErr result

@@ -1,19 +1,17 @@
 //! Names of cells and nets, in maps: each leads to what it led to, once both arenas are compacted.
 
-ghost use Rattle.std.specs.Prelude.{◌≡◌, ◌++◌, IsSome, Some, OnOk, OnErr};
-ghost use Rattle.std.specs.BTreeMap.{get};
-ghost use Rattle.std.specs.Option.{option_map};
+ghost use Rattle.std.specs.Prelude.{◌++◌, IsSome, OnOk, OnErr};
 ghost use Rattle.std.specs.Result.{IfErr};
-ghost use Rattle.std.specs.String.{string_cmp};
 ghost use Rattle.triple_arena_direct.specs.ArenaState.{arena_len};
-ghost use Rattle.triple_arena_direct.specs.Concrete.{p0_numbers, q2_numbers, moved, renamed_if_live};
+ghost use Rattle.triple_arena_direct.specs.Concrete.{p0_numbers, q2_numbers, moved};
 ghost use Rattle.triple_arena_direct.specs.Entries.{look_up};
 ghost use Rattle.triple_arena_direct.specs.Held.{held_all};
 ghost use Rattle.triple_arena_direct.specs.Pointers.{Pointer};
 ghost use Rattle.triple_arena_direct.specs.Renaming.{first_unresolved};
 ghost use Rattle.triple_arena_direct.specs.RenamingBoth.{StandApart, IsRenamedBoth, IsFoundRenamedBoth, RefusesBoth};
 ghost use Rattle.triple_arena_direct.specs.Walks.{values};
-ghost use Rattle.triple_arena_direct_uses.specs.NamesBesideTwo.{cells_in_cell, nets_in_cell, cells_in_net, nets_in_net, kind_named, label_named};
+ghost use Rattle.triple_arena_direct_uses.specs.NamesBesideTwo.{cells_in_cell, nets_in_cell, cells_in_net, nets_in_net, NamesFollow, StayNamed};
+ghost use Rattle.triple_arena_direct_uses.specs.Unchanged.{AreUnchanged};
 
 use std::alloc::Global;
 use std::collections::BTreeMap;
@@ -133,6 +131,8 @@ pub fn compact_named<H: Recast<P0> + Recast<Q2>>(
 ) -> Result<(), CompactBothError<P0, Q2>>
     requires pins_apart { StandApart ⟦<H as Recast<P0>>⟧.held ⟦<H as Recast<P0>>⟧.refill
         ⟦<H as Recast<Q2>>⟧.held ⟦<H as Recast<Q2>>⟧.refill }
+    // Done: under the new pointer stands what stood under the old one, renamed, as in the pins, and each
+    // name of an entry leads to that entry.
     ensures cells { OnOk result ((c : Pointer) → IsSome (look_up netlist.old.cells.slots c)
         → IsFoundRenamedBoth
         p0_numbers (moved netlist.old.cells) cells_in_cell.held cells_in_cell.refill
@@ -149,20 +149,15 @@ pub fn compact_named<H: Recast<P0> + Recast<Q2>>(
         p0_numbers (moved netlist.old.cells) ⟦<H as Recast<P0>>⟧.held ⟦<H as Recast<P0>>⟧.refill
         q2_numbers (moved netlist.old.nets) ⟦<H as Recast<Q2>>⟧.held ⟦<H as Recast<Q2>>⟧.refill
         pins.old pins.new) }
-    ensures cell_names { OnOk result ((name : _)
-        → option_map p0_numbers (get string_cmp netlist.new.cell_names name)
-        ≡ option_map (renamed_if_live (moved netlist.old.cells) netlist.old.cells.slots)
-        (option_map p0_numbers (get string_cmp netlist.old.cell_names name))) }
-    ensures net_names { OnOk result ((name : _)
-        → option_map q2_numbers (get string_cmp netlist.new.net_names name)
-        ≡ option_map (renamed_if_live (moved netlist.old.nets) netlist.old.nets.slots)
-        (option_map q2_numbers (get string_cmp netlist.old.net_names name))) }
-    ensures kinds { OnOk result ((name : _) (kind : _)
-        → kind_named netlist.old.cells netlist.old.cell_names name ≡ Some kind
-        → kind_named netlist.new.cells netlist.new.cell_names name ≡ Some kind) }
-    ensures labels { OnOk result ((name : _) (label : _)
-        → label_named netlist.old.nets netlist.old.net_names name ≡ Some label
-        → label_named netlist.new.nets netlist.new.net_names name ≡ Some label) }
+    ensures cell_names { OnOk result (NamesFollow p0_numbers (moved netlist.old.cells)
+        netlist.old.cells.slots netlist.old.cell_names netlist.new.cell_names) }
+    ensures net_names { OnOk result (NamesFollow q2_numbers (moved netlist.old.nets)
+        netlist.old.nets.slots netlist.old.net_names netlist.new.net_names) }
+    ensures named { OnOk result (StayNamed netlist.old netlist.new) }
+
+    // Refused: nothing has changed, and the error tells why.
+    ensures refused { OnErr result
+        (AreUnchanged netlist.old netlist.new pins.old pins.new) }
     ensures refusal { IfErr result (RefusesBoth
         (arena_len netlist.old.cells) (first_unresolved p0_numbers netlist.old.cells.slots
         ((held_all cells_in_cell.held (values netlist.old.cells.slots)
@@ -172,8 +167,6 @@ pub fn compact_named<H: Recast<P0> + Recast<Q2>>(
         ((held_all nets_in_net.held (values netlist.old.nets.slots)
         ++ held_all nets_in_cell.held (values netlist.old.cells.slots))
         ++ ⟦<H as Recast<Q2>>⟧.held pins.old))) }
-    ensures refused { OnErr result (netlist.new ≡ netlist.old) }
-    ensures pins_refused { OnErr result (pins.new ≡ pins.old) }
 {
     let (cells, nets) = compress_recast_both_with(
         &mut netlist.cells,

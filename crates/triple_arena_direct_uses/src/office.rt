@@ -1,18 +1,18 @@
 //! Workers and desks of an office, in two arenas whose pointers are of one form, that of `P0`.
 
-ghost use Rattle.std.specs.Prelude.{◌≡◌, ◌++◌, IsSome, IfOk, OnOk, OnErr};
+ghost use Rattle.std.specs.Prelude.{◌++◌, IsSome, IfOk, OnOk, OnErr};
 ghost use Rattle.std.specs.Result.{IfErr};
 ghost use Rattle.triple_arena_base.specs.Held.{held_all};
-ghost use Rattle.triple_arena_base.specs.Invalidation.{allowed_option};
 ghost use Rattle.triple_arena_ptr.specs.Pointers.{Pointer};
 ghost use Rattle.triple_arena.specs.ArenaState.{arena_len};
-ghost use Rattle.triple_arena.specs.Ending.{told};
 ghost use Rattle.triple_arena.specs.Entries.{look_up};
 ghost use Rattle.triple_arena.specs.Walks.{values};
+ghost use Rattle.triple_arena_direct.specs.Compacted.{TellsMap};
 ghost use Rattle.triple_arena_direct.specs.Concrete.{p0_numbers, moved, moving_wraps};
-ghost use Rattle.triple_arena_direct.specs.Renaming.{MapsPointers, first_unresolved};
+ghost use Rattle.triple_arena_direct.specs.Renaming.{first_unresolved};
 ghost use Rattle.triple_arena_direct.specs.RenamingBoth.{IsFoundRenamedBoth, RefusesBoth};
 ghost use Rattle.triple_arena_direct_uses.specs.Office.{workers_of_worker, desks_of_worker, workers_of_desk, desks_of_desk};
+ghost use Rattle.triple_arena_direct_uses.specs.Unchanged.{AreUnchanged};
 
 use std::alloc::Global;
 use triple_arena::Arena;
@@ -124,14 +124,12 @@ pub fn compact_office(
     ),
     CompactBothError<WorkerPtr, DeskPtr>,
 >
-    ensures worker_answer { IfOk result (λ maps. maps.0
-        ≡ told (moving_wraps workers.old) (allowed_option maps.0)) }
-    ensures desk_answer { IfOk result (λ maps. maps.1
-        ≡ told (moving_wraps desks.old) (allowed_option maps.1)) }
-    ensures worker_maps { IfOk result (λ maps. MapsPointers p0_numbers (moved workers.old)
-        workers.old.slots (allowed_option maps.0).slots) }
-    ensures desk_maps { IfOk result (λ maps. MapsPointers p0_numbers (moved desks.old)
-        desks.old.slots (allowed_option maps.1).slots) }
+    // Done: the maps lead from the old pointers to the new ones, and under the new one stands what
+    // stood under the old one, renamed.
+    ensures worker_map { IfOk result (λ maps. TellsMap p0_numbers (moved workers.old)
+        workers.old.slots (moving_wraps workers.old) maps.0) }
+    ensures desk_map { IfOk result (λ maps. TellsMap p0_numbers (moved desks.old)
+        desks.old.slots (moving_wraps desks.old) maps.1) }
     ensures workers { OnOk result ((w : Pointer) → IsSome (look_up workers.old.slots w)
         → IsFoundRenamedBoth
         p0_numbers (moved workers.old) workers_of_worker.held workers_of_worker.refill
@@ -142,8 +140,9 @@ pub fn compact_office(
         p0_numbers (moved desks.old) desks_of_desk.held desks_of_desk.refill
         p0_numbers (moved workers.old) workers_of_desk.held workers_of_desk.refill
         (look_up desks.old.slots d) (look_up desks.new.slots (moved desks.old d))) }
-    ensures worker_count { arena_len workers.new ≡ arena_len workers.old }
-    ensures desk_count { arena_len desks.new ≡ arena_len desks.old }
+
+    // Refused: nothing has changed, and the error tells why.
+    ensures refused { OnErr result (AreUnchanged workers.old workers.new desks.old desks.new) }
     ensures refusal { IfErr result (RefusesBoth
         (arena_len workers.old) (first_unresolved p0_numbers workers.old.slots
         (held_all workers_of_worker.held (values workers.old.slots)
@@ -151,8 +150,10 @@ pub fn compact_office(
         (arena_len desks.old) (first_unresolved p0_numbers desks.old.slots
         (held_all desks_of_desk.held (values desks.old.slots)
         ++ held_all desks_of_worker.held (values workers.old.slots)))) }
-    ensures workers_refused { OnErr result (workers.new ≡ workers.old) }
-    ensures desks_refused { OnErr result (desks.new ≡ desks.old) }
+
+    // In each case entries are as many as before.
+    ensures counts { AreUnchanged (arena_len workers.old) (arena_len workers.new)
+        (arena_len desks.old) (arena_len desks.new) }
 {
     compress_recast_both(workers, desks, alloc, false)
 }

@@ -1,5 +1,5 @@
 -- A circuit: what is read under each pointer, and what is saved of it.
-use Rattle.std.specs.Prelude.{ℕ, suc, ◌-◌, ◌^◌, List, map, Option, None}
+use Rattle.std.specs.Prelude.{◌≡◌, ◌≢◌, ℕ, suc, ◌-◌, ◌^◌, ◌++◌, ◌∷◌, List, [], map, Option, None, Some}
 use Rattle.std.specs.Int.{w32, w64}
 use Rattle.std.specs.Option.{option_map}
 use Rattle.triple_arena_ptr.specs.Pointers.{Pointer}
@@ -11,6 +11,8 @@ use Rattle.triple_arena_snapshot.specs.Coding.{Coding}
 use Rattle.triple_arena_snapshot.specs.Layouts.{both, list, number, option, pointer, positive}
 use Rattle.triple_arena_snapshot.specs.ArenaCodings.{arena_content}
 use Rattle.triple_arena_snapshot.specs.ArenaLayouts.{arena_coding}
+use Rattle.triple_arena_snapshot.specs.Shapes.{arena_shape}
+use Rattle.triple_arena_snapshot.specs.Files.{file_of}
 use Rattle.triple_arena_snapshot.specs.laws.CodingLaws.{wide32, wide64}
 use Rattle.triple_arena_snapshot_uses.specs.declared.circuit.Cell.{Cell}
 use Rattle.triple_arena_snapshot_uses.specs.declared.circuit.Net.{Net}
@@ -66,3 +68,25 @@ net_coding = both wide (option (pointer wide wide))
 
 abbrev pub circuit_coding : Coding CircuitContent
 circuit_coding = both (arena_coding (2 ^ 64 - 1) 8 None (positive wide) cell_coding) (arena_coding (2 ^ 64 - 1) 8 None (positive wide) net_coding)
+
+-- the shapes of a cell, tag 128, of a pair of a `u32` and a vector of `Q2`; of a net, tag 129, of a pair of a `u64` and an option
+-- of `P0`; and of a pair of both arenas
+abbrev pub cell_shape : List ℕ
+cell_shape = 128 ∷ 22 ∷ 3 ∷ 23 ∷ 26 ∷ []
+
+abbrev pub net_shape : List ℕ
+net_shape = 129 ∷ 22 ∷ 4 ∷ 21 ∷ 25 ∷ []
+
+abbrev pub circuit_shape : List ℕ
+circuit_shape = 22 ∷ arena_shape cell_shape ++ arena_shape net_shape
+
+-- their file
+abbrev pub file_of_circuit : Parts → List ℕ
+file_of_circuit parts = file_of circuit_shape (circuit_coding.encoding (circuit_content parts))
+
+-- something new is read under the next pointer, under which nothing was read; under each other is read what was
+pub record IsAdded {R : Type 0} (old : Pointer → Option R) (next p : Pointer) (read : R) (after : Pointer → Option R) : Type 0 where
+  pub found : after p ≡ Some read
+  pub free : old p ≡ None
+  pub is_next : p ≡ next
+  pub others : (q : Pointer) → q ≢ p → after q ≡ old q

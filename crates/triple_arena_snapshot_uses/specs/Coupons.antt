@@ -1,5 +1,5 @@
 -- Coupons, and their file.
-use Rattle.std.specs.Prelude.{ℕ, ◌^◌, ◌-◌, suc, Bool, true, List, Option, None}
+use Rattle.std.specs.Prelude.{ℕ, ◌^◌, ◌-◌, suc, Bool, true, ◌∷◌, [], List, Option, None}
 use Rattle.std.specs.Int.{w16, w64}
 use Rattle.triple_arena_ptr.specs.Numbers.{counting_to}
 use Rattle.triple_arena_ptr.specs.Pointers.{Pointer}
@@ -10,9 +10,9 @@ use Rattle.triple_arena_snapshot.specs.Coding.{Coding, Reading}
 use Rattle.triple_arena_snapshot.specs.Layouts.{number, positive}
 use Rattle.triple_arena_snapshot.specs.laws.CodingLaws.{wide16, wide64}
 use Rattle.triple_arena_snapshot.specs.ArenaCodings.{arena_content}
-use Rattle.triple_arena_snapshot.specs.ArenaLayouts.{arena_coding}
 use Rattle.triple_arena_snapshot.specs.Files.{file_of, file_reading}
-use Rattle.triple_arena_snapshot.specs.StrictFiles.{FitsStrictly, up_to_counter}
+use Rattle.triple_arena_snapshot.specs.StrictFiles.{strict_arena_coding}
+use Rattle.triple_arena_snapshot.specs.Shapes.{strict_arena_shape}
 
 -- the numbers of a coupon's index and of its generation
 abbrev pub coupon_numbers : P3 → Pointer
@@ -31,16 +31,20 @@ coupons_content coupons = arena_content (λ n. n) coupons
 
 -- how coupons stand in a file
 abbrev pub coupon_coding : Coding CouponsContent
-coupon_coding = arena_coding (2 ^ 16 - 1) 2 None (positive (number w16 (2 ^ 16) wide16)) (number w64 (2 ^ 64) wide64)
+coupon_coding = strict_arena_coding true (2 ^ 16 - 1) 2 None (positive (number w16 (2 ^ 16) wide16)) (number w64 (2 ^ 64) wide64)
+
+-- a strict arena of `u64`
+abbrev pub coupons_shape : List ℕ
+coupons_shape = strict_arena_shape (4 ∷ [])
 
 -- what is read of a file
 abbrev pub coupons_reading : List ℕ → Reading CouponsContent
-coupons_reading bytes = up_to_counter true (file_reading coupon_coding.decoding bytes)
+coupons_reading bytes = file_reading coupons_shape coupon_coding.decoding bytes
 
 -- what fits in a file of coupons
 abbrev pub FitInFile : ArenaState ℕ → Type 0
-FitInFile coupons = FitsStrictly true coupon_coding (coupons_content coupons)
+FitInFile coupons = coupon_coding.fits (coupons_content coupons)
 
 -- their file
 abbrev pub file_of_coupons : ArenaState ℕ → List ℕ
-file_of_coupons coupons = file_of (coupon_coding.encoding (coupons_content coupons))
+file_of_coupons coupons = file_of coupons_shape (coupon_coding.encoding (coupons_content coupons))

@@ -5,24 +5,27 @@
 //! given finds what it found when it was saved, and the next cell and the next net get the pointers
 //! that they would have got.
 
-ghost use Rattle.std.specs.Prelude.{◌≡◌, ◌≢◌, ◌∷◌, ◌-◌, ◌^◌, [], false, Option, None, Some, Ok, IfOk, IfErr, IfSome, IsSome, OnOk, OnErr, option_copied};
+ghost use Rattle.std.specs.Prelude.{◌≡◌, ◌≢◌, ◌<◌, ◌∷◌, ◌-◌, ◌^◌, [], true, false, Option, None, Some, Ok, IsOk, IfOk, IfErr, IfSome, IsSome, OnOk, OnErr, option_copied};
 ghost use Rattle.std.specs.Io.KnownBytes.{Appends, IsAtEnd};
 ghost use Rattle.std.specs.Option.{option_map};
 ghost use Rattle.triple_arena_ptr.specs.Numbers.{counting_to, wraps};
 ghost use Rattle.triple_arena_ptr.specs.Pointers.{Pointer};
+ghost use Rattle.triple_arena.specs.ArenaState.{arena_len, capacity};
 ghost use Rattle.triple_arena.specs.Entries.{look_up};
 ghost use Rattle.triple_arena.specs.Insertion.{next_pointer};
 ghost use Rattle.triple_arena.specs.Histories.{insertion, removal, Fits, Continues};
 ghost use Rattle.triple_arena.specs.SlotSteps.{IsTouched};
-ghost use Rattle.triple_arena_snapshot.specs.Files.{file_of, file_reading, LoadsFrom, SaveFails};
-ghost use Rattle.triple_arena_snapshot_uses.specs.Circuit.{Parts, p0_numbers, q2_numbers, cell_at, net_at, circuit_content, circuit_coding};
+ghost use Rattle.triple_arena_snapshot.specs.Files.{file_reading, LoadsFrom, SaveFails};
+ghost use Rattle.triple_arena_snapshot_uses.specs.Circuit.{Parts, p0_numbers, q2_numbers, cell_at, net_at, circuit_content, circuit_coding, circuit_shape, file_of_circuit, IsAdded};
 
 use std::alloc::Global;
 use std::io::{Read, Write};
 use triple_arena::{Arena, ArenaInsertTrait, ArenaTrait};
 use triple_arena_base::{AllocError, ReallocationError};
 use triple_arena_ptr::{P0, Q2};
-use triple_arena_snapshot::{Codec, DecodeError, LoadError, SaveError, laws, load, save};
+use triple_arena_snapshot::{
+    Codec, DecodeError, LoadError, SaveError, laws, load, save, shape_over,
+};
 
 /// A cell: its kind, and the nets that it reads.
 #[derive(Debug, PartialEq, Drop)]
@@ -40,13 +43,21 @@ pub struct Net {
 
 /// The kind, and then the nets.
 impl Codec for Cell {
-    ghost use Rattle.triple_arena_snapshot_uses.specs.Circuit.{CellRead, cell_read, cell_coding};
+    ghost use Rattle.triple_arena_snapshot_uses.specs.Circuit.{CellRead, cell_read, cell_coding, cell_shape};
 
     ghost Content = { CellRead };
 
     ghost content = { cell_read };
 
     ghost coding = { cell_coding };
+
+    ghost shape = { cell_shape };
+
+    ghost asks = { true };
+
+    fn shape_at(at: usize) -> Result<u8, usize> {
+        shape_over::<(u32, Vec<Q2>)>(128, at)
+    }
 
     fn encode(&self, out: &mut Vec<u8>) -> Result<(), AllocError> {
         self.kind.encode(out)?;
@@ -63,13 +74,21 @@ impl Codec for Cell {
 
 /// The label, and then the driver.
 impl Codec for Net {
-    ghost use Rattle.triple_arena_snapshot_uses.specs.Circuit.{NetRead, net_read, net_coding};
+    ghost use Rattle.triple_arena_snapshot_uses.specs.Circuit.{NetRead, net_read, net_coding, net_shape};
 
     ghost Content = { NetRead };
 
     ghost content = { net_read };
 
     ghost coding = { net_coding };
+
+    ghost shape = { net_shape };
+
+    ghost asks = { false };
+
+    fn shape_at(at: usize) -> Result<u8, usize> {
+        shape_over::<(u64, Option<P0>)>(129, at)
+    }
 
     fn encode(&self, out: &mut Vec<u8>) -> Result<(), AllocError> {
         self.label.encode(out)?;
@@ -104,38 +123,47 @@ impl Circuit {
 
     /// A new cell that reads one net, whether there is such a net or not.
     ///
-    /// Refused where memory is, or where each index has a cell; then nothing changes.
+    /// `AllocError` where memory is refused, or each index has a cell; then nothing changes.
+    /// `BeyondMaxCapacity` never comes, as the heap has no limit.
     pub fn add_cell(&mut self, kind: u32, net: Q2, alloc: Global) -> Result<P0, ReallocationError>
-        ensures found { IfOk result (λ c. cell_at self.new.parts (p0_numbers c)
-            ≡ Some (kind, q2_numbers net ∷ [])) }
-        ensures free { IfOk result (λ c. cell_at self.old.parts (p0_numbers c) ≡ None) }
-        ensures next { IfOk result (λ c. p0_numbers c ≡ next_pointer self.old.parts.0) }
-        ensures others { IfOk result (λ c. (q : Pointer) → q ≢ p0_numbers c
-            → cell_at self.new.parts q ≡ cell_at self.old.parts q) }
+        // Done: the cell is read under its pointer, and all else as before.
+        ensures added { IfOk result (λ c. IsAdded (cell_at self.old.parts)
+            (next_pointer self.old.parts.0) (p0_numbers c) (kind, q2_numbers net ∷ [])
+            (cell_at self.new.parts)) }
         ensures nets { self.new.parts.1 ≡ self.old.parts.1 }
         ensures history { IfOk result (λ c. Continues Fits self.old.parts.0
             (insertion (p0_numbers c) ∷ []) self.new.parts.0) }
+
+        // Refused: nothing has changed, and there is no limit.
         ensures refused { OnErr result (self.new ≡ self.old) }
+        ensures refusal { IfErr result (λ e. e ≡ ReallocationError.AllocError) }
     {
+        // There is no limit.
+        let _limit = self.parts.0.max_capacity();
         let reads = Vec::from_slice(alloc, &[net])?;
         self.parts.0.insert(Cell { kind, reads })
     }
 
     /// A new net, which a cell drives, or none, whether there is such a cell or not.
     ///
-    /// Refused where memory is, or where each index has a net; then nothing changes.
+    /// `AllocError`, and nothing changes, only where there is no place, and memory is refused or each index
+    /// has a net. `BeyondMaxCapacity` never comes, as the heap has no limit.
     pub fn add_net(&mut self, label: u64, driver: Option<P0>) -> Result<Q2, ReallocationError>
-        ensures found { IfOk result (λ n. net_at self.new.parts (q2_numbers n)
-            ≡ Some (label, option_map p0_numbers driver)) }
-        ensures free { IfOk result (λ n. net_at self.old.parts (q2_numbers n) ≡ None) }
-        ensures next { IfOk result (λ n. q2_numbers n ≡ next_pointer self.old.parts.1) }
-        ensures others { IfOk result (λ n. (q : Pointer) → q ≢ q2_numbers n
-            → net_at self.new.parts q ≡ net_at self.old.parts q) }
+        // Done: the net is read under its pointer, and all else as before.
+        ensures added { IfOk result (λ n. IsAdded (net_at self.old.parts)
+            (next_pointer self.old.parts.1) (q2_numbers n) (label, option_map p0_numbers driver)
+            (net_at self.new.parts)) }
         ensures cells { self.new.parts.0 ≡ self.old.parts.0 }
         ensures history { IfOk result (λ n. Continues Fits self.old.parts.1
             (insertion (q2_numbers n) ∷ []) self.new.parts.1) }
+
+        // Refused: nothing has changed, there was no place, and there is no limit.
         ensures refused { OnErr result (self.new ≡ self.old) }
+        ensures had_place { arena_len self.old.parts.1 < capacity self.old.parts.1 → IsOk result }
+        ensures refusal { IfErr result (λ e. e ≡ ReallocationError.AllocError) }
     {
+        // There is no limit.
+        let _limit = self.parts.1.max_capacity();
         self.parts.1.insert(Net { label, driver })
     }
 
@@ -173,10 +201,10 @@ impl Circuit {
     /// and not all of it.
     pub fn save<W: Write>(&self, alloc: Global, output: &mut W) -> Result<(), SaveError>
         ensures written { OnOk result (Appends (W.contents output.old) (W.contents output.new)
-            (file_of (circuit_coding.encoding (circuit_content self.now.parts)))) }
+            (file_of_circuit self.now.parts)) }
         ensures fits { OnOk result (circuit_coding.fits (circuit_content self.now.parts)) }
         ensures refused { IfErr result (λ e. SaveFails e (W.contents output.old)
-            (W.contents output.new) (file_of (circuit_coding.encoding (circuit_content self.now.parts)))) }
+            (W.contents output.new) (file_of_circuit self.now.parts)) }
     {
         save(&self.parts, alloc, output)
     }
@@ -187,24 +215,24 @@ impl Circuit {
     /// fault in the file and its offset.
     pub fn load<R: Read>(alloc: Global, input: &mut R) -> Result<Circuit, LoadError>
         ensures read { IfSome (R.remaining input.old) (λ bytes. LoadsFrom (λ circuit. circuit_content circuit.parts) result
-            (file_reading circuit_coding.decoding bytes)) }
+            (file_reading circuit_shape circuit_coding.decoding bytes)) }
         // Of the file of a circuit that was saved: each pointer finds what it found, the next ones are the
         // same, and each history that fitted fits.
         ensures again { (saved : Parts) → circuit_coding.fits (circuit_content saved)
-            → R.remaining input.old ≡ Some (file_of (circuit_coding.encoding (circuit_content saved)))
+            → R.remaining input.old ≡ Some (file_of_circuit saved)
             → LoadsFrom (λ circuit. circuit_content circuit.parts) result (Ok (circuit_content saved)) }
         ensures cells { (saved : Parts) → circuit_coding.fits (circuit_content saved)
-            → R.remaining input.old ≡ Some (file_of (circuit_coding.encoding (circuit_content saved)))
+            → R.remaining input.old ≡ Some (file_of_circuit saved)
             → IfOk result (λ loaded. (c : Pointer) → cell_at loaded.parts c ≡ cell_at saved c) }
         ensures nets { (saved : Parts) → circuit_coding.fits (circuit_content saved)
-            → R.remaining input.old ≡ Some (file_of (circuit_coding.encoding (circuit_content saved)))
+            → R.remaining input.old ≡ Some (file_of_circuit saved)
             → IfOk result (λ loaded. (n : Pointer) → net_at loaded.parts n ≡ net_at saved n) }
         ensures next { (saved : Parts) → circuit_coding.fits (circuit_content saved)
-            → R.remaining input.old ≡ Some (file_of (circuit_coding.encoding (circuit_content saved)))
+            → R.remaining input.old ≡ Some (file_of_circuit saved)
             → IfOk result (λ loaded. (next_pointer loaded.parts.0 ≡ next_pointer saved.0)
             × (next_pointer loaded.parts.1 ≡ next_pointer saved.1)) }
         ensures history { (saved : Parts) → circuit_coding.fits (circuit_content saved)
-            → R.remaining input.old ≡ Some (file_of (circuit_coding.encoding (circuit_content saved)))
+            → R.remaining input.old ≡ Some (file_of_circuit saved)
             → IfOk result (λ loaded. Continues Fits saved.0 [] loaded.parts.0
             × Continues Fits saved.1 [] loaded.parts.1) }
         ensures end { OnOk result (IsAtEnd (R.remaining input.new)) }

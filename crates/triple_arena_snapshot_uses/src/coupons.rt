@@ -1,10 +1,10 @@
 //! Coupons that outlive their process: one that was redeemed is never valid again, here or where their
 //! file is loaded.
 
-ghost use Rattle.std.specs.Prelude.{◌≡◌, ◌≢◌, ℕ, None, Some, Ok, OnOk, OnErr, IfOk, IfErr, IfSome};
+ghost use Rattle.std.specs.Prelude.{◌≡◌, ◌≢◌, ◌<◌, ℕ, None, Some, Ok, IsOk, OnOk, OnErr, IfOk, IfErr, IfSome};
 ghost use Rattle.std.specs.Io.KnownBytes.{Appends, IsAtEnd};
 ghost use Rattle.triple_arena_ptr.specs.Pointers.{Pointer};
-ghost use Rattle.triple_arena.specs.ArenaState.{ArenaState};
+ghost use Rattle.triple_arena.specs.ArenaState.{ArenaState, arena_len, capacity};
 ghost use Rattle.triple_arena.specs.Entries.{look_up};
 ghost use Rattle.triple_arena.specs.Insertion.{next_pointer};
 ghost use Rattle.triple_arena.specs.SlotSteps.{IsTouched};
@@ -56,6 +56,7 @@ impl Coupons {
     /// Refused only where there is no place, and memory is refused or each index has a coupon; then
     /// nothing changes.
     pub fn issue(&mut self, cents: u64) -> Result<P3, ReallocationError>
+        // Done: the coupon is for so many cents, and new.
         ensures found { IfOk result
             (λ coupon. look_up self.new.slots (coupon_numbers coupon) ≡ Some cents) }
         ensures free { IfOk result
@@ -64,8 +65,13 @@ impl Coupons {
             (λ coupon. (q : Pointer) → IsGoneForGood self.old q → coupon_numbers coupon ≢ q) }
         ensures others { IfOk result (λ coupon. (q : Pointer) → q ≢ coupon_numbers coupon
             → look_up self.new.slots q ≡ look_up self.old.slots q) }
-        ensures stays_gone { (q : Pointer) → IsGoneForGood self.old q → IsGoneForGood self.new q }
+
+        // Refused: nothing has changed, and there was no place.
         ensures refused { OnErr result (self.new ≡ self.old) }
+        ensures had_place { arena_len self.old < capacity self.old → IsOk result }
+
+        // In each case what was redeemed stays so.
+        ensures stays_gone { (q : Pointer) → IsGoneForGood self.old q → IsGoneForGood self.new q }
     {
         self.coupons.insert(cents)
     }

@@ -4,14 +4,13 @@
 ghost use Rattle.std.specs.Prelude.{◌≡◌, IsSome, IfOk, OnOk, OnErr};
 ghost use Rattle.std.specs.Option.{option_map};
 ghost use Rattle.std.specs.Result.{IfErr};
-ghost use Rattle.triple_arena_base.specs.Invalidation.{allowed_option};
 ghost use Rattle.triple_arena_ptr.specs.Pointers.{Pointer};
 ghost use Rattle.triple_arena.specs.ArenaState.{arena_len};
-ghost use Rattle.triple_arena.specs.Ending.{told};
 ghost use Rattle.triple_arena.specs.Entries.{look_up};
-ghost use Rattle.triple_arena_direct.specs.Renaming.{MapsPointers};
+ghost use Rattle.triple_arena_direct.specs.Compacted.{TellsMap};
 ghost use Rattle.triple_arena_uses.specs.Entities.{p0_numbers};
-ghost use Rattle.triple_arena_direct_uses.specs.Circuit.{q2_numbers, cell_at, net_at, cells_renamed, nets_renamed, moved, moving_wraps, CellsAreThere, NetsAreThere, CellsStay, NetsStay, BothStay};
+ghost use Rattle.triple_arena_direct_uses.specs.Circuit.{q2_numbers, cell_at, net_at, cells_renamed, nets_renamed, moved, moving_wraps, CellsAreThere, NetsAreThere, EndsAreThere, CellsStay, NetsStay, BothStay};
+ghost use Rattle.triple_arena_direct_uses.specs.Unchanged.{AreUnchanged};
 
 use super::{Cell, Circuit, Net};
 use std::alloc::Global;
@@ -41,26 +40,27 @@ impl Circuit {
         ),
         CompactBothError<P0, Q2>,
     >
-        ensures cell_answer { IfOk result (λ maps. maps.0
-            ≡ told (moving_wraps self.old.cells) (allowed_option maps.0)) }
-        ensures net_answer { IfOk result (λ maps. maps.1
-            ≡ told (moving_wraps self.old.nets) (allowed_option maps.1)) }
-        ensures cell_maps { IfOk result (λ maps. MapsPointers p0_numbers (moved self.old.cells)
-            self.old.cells.slots (allowed_option maps.0).slots) }
-        ensures net_maps { IfOk result (λ maps. MapsPointers q2_numbers (moved self.old.nets)
-            self.old.nets.slots (allowed_option maps.1).slots) }
+        // Done: the maps lead from the old pointers to the new ones, and under the new one is read what
+        // was read under the old one, renamed. Each end was there.
+        ensures cell_map { IfOk result (λ maps. TellsMap p0_numbers (moved self.old.cells)
+            self.old.cells.slots (moving_wraps self.old.cells) maps.0) }
+        ensures net_map { IfOk result (λ maps. TellsMap q2_numbers (moved self.old.nets)
+            self.old.nets.slots (moving_wraps self.old.nets) maps.1) }
         ensures cells { OnOk result ((c : Pointer) → IsSome (look_up self.old.cells.slots c)
             → cell_at self.new (moved self.old.cells c)
             ≡ option_map (nets_renamed (moved self.old.nets)) (cell_at self.old c)) }
         ensures nets { OnOk result ((n : Pointer) → IsSome (look_up self.old.nets.slots n)
             → net_at self.new (moved self.old.nets n)
             ≡ option_map (cells_renamed (moved self.old.cells)) (net_at self.old n)) }
-        ensures cells_there { OnOk result (CellsAreThere self.old) }
-        ensures nets_there { OnOk result (NetsAreThere self.old) }
-        ensures cell_count { arena_len self.new.cells ≡ arena_len self.old.cells }
-        ensures net_count { arena_len self.new.nets ≡ arena_len self.old.nets }
+        ensures there { OnOk result (EndsAreThere self.old) }
+
+        // Refused: nothing has changed, and the error tells why.
         ensures refused { OnErr result (self.new ≡ self.old) }
         ensures refusal { IfErr result (BothStay self.old) }
+
+        // In each case cells and nets are as many as before.
+        ensures counts { AreUnchanged (arena_len self.old.cells) (arena_len self.new.cells)
+            (arena_len self.old.nets) (arena_len self.new.nets) }
     {
         // What is read follows, and look-ups tell what each refusal means.
         readings_follow_both::<P0, Q2, Cell>();
@@ -80,19 +80,23 @@ impl Circuit {
         &mut self,
         alloc: Global,
     ) -> Result<InvalidationOption<DirectArena<P0, P0>>, CompactError<P0>>
-        ensures answer { IfOk result (λ answer. answer
-            ≡ told (moving_wraps self.old.cells) (allowed_option answer)) }
-        ensures maps { IfOk result (λ answer. MapsPointers p0_numbers (moved self.old.cells)
-            self.old.cells.slots (allowed_option answer).slots) }
+        // Done: the map leads from the old pointers to the new ones, the cells are as they were, and the
+        // nets lead to them. Each cell to which a net leads was there.
+        ensures map { IfOk result (TellsMap p0_numbers (moved self.old.cells)
+            self.old.cells.slots (moving_wraps self.old.cells)) }
         ensures cells { OnOk result ((c : Pointer) → IsSome (look_up self.old.cells.slots c)
             → look_up self.new.cells.slots (moved self.old.cells c)
             ≡ look_up self.old.cells.slots c) }
-        ensures there { OnOk result (CellsAreThere self.old) }
-        ensures count { arena_len self.new.cells ≡ arena_len self.old.cells }
         ensures nets { OnOk result ((n : Pointer) → net_at self.new n
             ≡ option_map (cells_renamed (moved self.old.cells)) (net_at self.old n)) }
+        ensures there { OnOk result (CellsAreThere self.old) }
+
+        // Refused: nothing has changed, and the error tells why.
         ensures refused { OnErr result (self.new ≡ self.old) }
         ensures refusal { IfErr result (CellsStay self.old) }
+
+        // In each case the cells are as many as before.
+        ensures count { arena_len self.new.cells ≡ arena_len self.old.cells }
     {
         // What is read of each net follows, and look-ups tell what each refusal means.
         readings_follow::<P0, Net>();
@@ -109,19 +113,23 @@ impl Circuit {
         &mut self,
         alloc: Global,
     ) -> Result<InvalidationOption<DirectArena<Q2, Q2>>, CompactError<Q2>>
-        ensures answer { IfOk result (λ answer. answer
-            ≡ told (moving_wraps self.old.nets) (allowed_option answer)) }
-        ensures maps { IfOk result (λ answer. MapsPointers q2_numbers (moved self.old.nets)
-            self.old.nets.slots (allowed_option answer).slots) }
+        // Done: the map leads from the old pointers to the new ones, the nets are as they were, and the
+        // cells read them. Each net that a cell reads was there.
+        ensures map { IfOk result (TellsMap q2_numbers (moved self.old.nets)
+            self.old.nets.slots (moving_wraps self.old.nets)) }
         ensures nets { OnOk result ((n : Pointer) → IsSome (look_up self.old.nets.slots n)
             → look_up self.new.nets.slots (moved self.old.nets n)
             ≡ look_up self.old.nets.slots n) }
-        ensures there { OnOk result (NetsAreThere self.old) }
-        ensures count { arena_len self.new.nets ≡ arena_len self.old.nets }
         ensures cells { OnOk result ((c : Pointer) → cell_at self.new c
             ≡ option_map (nets_renamed (moved self.old.nets)) (cell_at self.old c)) }
+        ensures there { OnOk result (NetsAreThere self.old) }
+
+        // Refused: nothing has changed, and the error tells why.
         ensures refused { OnErr result (self.new ≡ self.old) }
         ensures refusal { IfErr result (NetsStay self.old) }
+
+        // In each case the nets are as many as before.
+        ensures count { arena_len self.new.nets ≡ arena_len self.old.nets }
     {
         // What is read of each cell follows, and look-ups tell what each refusal means.
         readings_follow::<Q2, Cell>();

@@ -1,5 +1,6 @@
 use Rattle.std.proofs.Common.{◌≡◌, ◌≢◌, ℕ, ◌+◌, ◌<◌, ◌≤◌, ◌++◌, [], ◌∷◌, ◌∙◌, List, Bool, true, false, Option, Some, None, is_some, IsSome, Result, Ok, Err, IsOk, IfOk, OnOk, OnErr, ◌↔◌, refl, sym, ap, subst, arith, true≢false}
 use Rattle.std.proofs.lemmas.List.{append-nil}
+use Rattle.std.proofs.lemmas.Result.{on_ok_weaker}
 use Rattle.std.specs.Option.{option_and_then}
 use Rattle.triple_arena_ptr.specs.Numbers.{Generations, raise}
 use Rattle.triple_arena_ptr.specs.Pointers.{Pointer}
@@ -14,6 +15,7 @@ use Rattle.triple_arena.specs.laws.TouchedLaws.{removed_len, removed_capacity}
 use Rattle.triple_arena.specs.Histories.{ModelCall, insertion, removal}
 use Rattle.triple_arena_direct.specs.StrictAnswers.{is_exhausted, strict_of, calls_if_ok}
 use Rattle.triple_arena_direct.specs.StrictCalls.{IsStrictStep, AreStrictSteps, StrictCall, to_insert, to_remove}
+use Rattle.triple_arena_direct.specs.StrictDone.{IsStrictlyInserted}
 use Rattle.triple_arena_direct.specs.declared.errors.StrictError.{StrictError}
 use Rattle.triple_arena_direct_uses.proofs.exchange.exchange.Goals as goal
 
@@ -78,6 +80,12 @@ module _ {T : Type 0} where
   stays_through numbers s m t p (Ok r) first second = λ q other apart. second q apart ∙ first q other
   stays_through numbers s m t p (Err e) first second = tt
 
+-- entries at other indexes stay through an insertion
+rest_of : {B F T : Type 0} (numbers : B → Pointer) (m into t : ArenaState T) (value : T) (put : Result B F) → IfOk put (λ r. IsStrictlyInserted m into value (numbers r) t)
+    → IfOk put (λ r. (q : Pointer) → q.0 ≢ (numbers r).0 → look_up t.slots q ≡ look_up m.slots q)
+rest_of numbers m into t value (Ok r) done = λ q apart. done.others q (λ e. apart (ap (λ (x : Pointer). x.0) e))
+rest_of numbers m into t value (Err e) done = tt
+
 if_ok : {A E : Type 0} (Q : Type 0) (r : Result A E) → (IsOk r → Q) → OnOk r Q
 if_ok Q (Ok x) by = by refl
 if_ok Q (Err e) by = tt
@@ -85,7 +93,7 @@ if_ok Q (Err e) by = tt
 pub returns-clause-others : goal.returns-clause-others
 returns-clause-others g c =
     stays_through g.P.Ptr.numbers c.args.arena.now c.remove-taken.new.self c.insert-put.new.self (g.P.Ptr.numbers c.args.p) c.insert-put.result
-    c.remove-taken.ensures.others c.insert-put.ensures.others
+    c.remove-taken.ensures.others (rest_of g.P.Ptr.numbers c.remove-taken.new.self _ c.insert-put.new.self c.args.value c.insert-put.result c.insert-put.ensures.done)
 
 pub returns-clause-had_place : goal.returns-clause-had_place
 returns-clause-had_place g c = λ had.
@@ -94,7 +102,7 @@ returns-clause-had_place g c = λ had.
     (place_stays c.args.arena.now c.remove-taken.new.self c.remove-taken.result c.remove-taken.ensures.refused
     (if_ok _ c.remove-taken.result
     (place_after (raise gens) c.args.arena.now c.remove-taken.new.self (g.P.Ptr.numbers c.args.p) (is_exhausted gens c.args.arena.now)
-    c.remove-taken.result c.remove-taken.ensures.answer c.len-len.ensures.fits c.remove-taken.ensures.done)) had)).0
+    c.remove-taken.result c.remove-taken.ensures.answer c.len-len.ensures.fits (on_ok_weaker c.remove-taken.result (λ is. is.left) c.remove-taken.ensures.done))) had)).0
 
 pub returns-clause-made_place : goal.returns-clause-made_place
 returns-clause-made_place g c =
@@ -102,7 +110,7 @@ returns-clause-made_place g c =
     if_ok _ c.remove-taken.result (λ ok.
     (c.insert-put.ensures.had_place
     (place_after (raise gens) c.args.arena.now c.remove-taken.new.self (g.P.Ptr.numbers c.args.p) (is_exhausted gens c.args.arena.now)
-    c.remove-taken.result c.remove-taken.ensures.answer c.len-len.ensures.fits c.remove-taken.ensures.done ok)).0)
+    c.remove-taken.result c.remove-taken.ensures.answer c.len-len.ensures.fits (on_ok_weaker c.remove-taken.result (λ is. is.left) c.remove-taken.ensures.done) ok)).0)
 
 pub returns-clause-refused : goal.returns-clause-refused
 returns-clause-refused g c =
@@ -112,12 +120,12 @@ returns-clause-refused g c =
     (if_ok _ c.remove-taken.result (λ ok.
     (c.insert-put.ensures.had_place
     (place_after (raise gens) c.args.arena.now c.remove-taken.new.self (g.P.Ptr.numbers c.args.p) (is_exhausted gens c.args.arena.now)
-    c.remove-taken.result c.remove-taken.ensures.answer c.len-len.ensures.fits c.remove-taken.ensures.done ok)).0))
+    c.remove-taken.result c.remove-taken.ensures.answer c.len-len.ensures.fits (on_ok_weaker c.remove-taken.result (λ is. is.left) c.remove-taken.ensures.done) ok)).0))
 
 pub returns-clause-kept : goal.returns-clause-kept
 returns-clause-kept g c =
     kept_through g.P.Ptr.numbers c.args.arena.now c.remove-taken.new.self c.insert-put.new.self (g.P.Ptr.numbers c.args.p) c.remove-taken.result c.insert-put.result
-    c.remove-taken.ensures.refused c.insert-put.ensures.others
+    c.remove-taken.ensures.refused (rest_of g.P.Ptr.numbers c.remove-taken.new.self _ c.insert-put.new.self c.args.value c.insert-put.result c.insert-put.ensures.done)
 
 pub returns-clause-beyond : goal.returns-clause-beyond
 returns-clause-beyond g c =
@@ -131,7 +139,7 @@ returns-clause-given_once g c counting h fits =
     let second = calls_if_ok c.insert-put.result (λ q. insertion (g.P.Ptr.numbers q)) in
     let gens = g.P.Gen.PtrGen.generations in
     c.strict_calls_are_fresh.ensures.given_once heap gens c.args.arena.now (out ∷ put ∷ []) (first ++ second) c.insert-put.new.self h counting fits
-    (two_steps heap gens c.args.arena.now c.remove-taken.new.self c.insert-put.new.self out put first second c.remove-taken.ensures.step c.insert-put.ensures.step)
+    (two_steps heap gens c.args.arena.now c.remove-taken.new.self c.insert-put.new.self out put first second c.remove-taken.ensures.call.step c.insert-put.ensures.call.step)
 
 pub returns-clause-live : goal.returns-clause-live
 returns-clause-live g c counting h fits =
@@ -141,7 +149,7 @@ returns-clause-live g c counting h fits =
     let second = calls_if_ok c.insert-put.result (λ q. insertion (g.P.Ptr.numbers q)) in
     let gens = g.P.Gen.PtrGen.generations in
     c.strict_calls_are_fresh.ensures.live heap gens c.args.arena.now (out ∷ put ∷ []) (first ++ second) c.insert-put.new.self h counting fits
-    (two_steps heap gens c.args.arena.now c.remove-taken.new.self c.insert-put.new.self out put first second c.remove-taken.ensures.step c.insert-put.ensures.step)
+    (two_steps heap gens c.args.arena.now c.remove-taken.new.self c.insert-put.new.self out put first second c.remove-taken.ensures.call.step c.insert-put.ensures.call.step)
 
 pub returns-clause-stays_gone : goal.returns-clause-stays_gone
 returns-clause-stays_gone g c counting h fits =
@@ -151,4 +159,4 @@ returns-clause-stays_gone g c counting h fits =
     let second = calls_if_ok c.insert-put.result (λ q. insertion (g.P.Ptr.numbers q)) in
     let gens = g.P.Gen.PtrGen.generations in
     c.strict_calls_are_fresh.ensures.stays_gone heap gens c.args.arena.now (out ∷ put ∷ []) (first ++ second) c.insert-put.new.self h counting fits
-    (two_steps heap gens c.args.arena.now c.remove-taken.new.self c.insert-put.new.self out put first second c.remove-taken.ensures.step c.insert-put.ensures.step)
+    (two_steps heap gens c.args.arena.now c.remove-taken.new.self c.insert-put.new.self out put first second c.remove-taken.ensures.call.step c.insert-put.ensures.call.step)

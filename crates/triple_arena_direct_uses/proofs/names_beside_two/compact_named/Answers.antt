@@ -15,12 +15,10 @@ returns-clause-net_names g c name =
     let maps : MapsPointers q2_numbers (moved old.nets) old.nets.slots c.allow-nets.result.slots = search rules in
     c.names_follow-2.ensures.led _ _ _ maps _ _ (c.recast_values-2.ensures.values name)
 
-pub returns-clause-kinds : goal.returns-clause-kinds
-returns-clause-kinds g c name kind was =
+pub returns-clause-named : goal.returns-clause-named
+returns-clause-named g c =
     let old = c.args.netlist.now in
-    rw (returns-clause-cell_names g c name) (c.names_follow_both.ensures (λ cell. cell.kind) (λ v ps qs. refl) (moved old.cells) (moved old.nets) old.cells.slots _ (search rules) _ kind was)
-
-pub returns-clause-labels : goal.returns-clause-labels
-returns-clause-labels g c name label was =
-    let old = c.args.netlist.now in
-    rw (returns-clause-net_names g c name) (c.names_follow_both-2.ensures (λ net. net.label) (λ v ps qs. refl) (moved old.nets) (moved old.cells) old.nets.slots _ (search rules) _ label was)
+    record {
+      kinds = λ name kind was. rw (returns-clause-cell_names g c name) (c.names_follow_both.ensures (λ cell. cell.kind) (λ v ps qs. refl) (moved old.cells) (moved old.nets) old.cells.slots _ (search rules) _ kind was);
+      labels = λ name label was. rw (returns-clause-net_names g c name) (c.names_follow_both-2.ensures (λ net. net.label) (λ v ps qs. refl) (moved old.nets) (moved old.cells) old.nets.slots _ (search rules) _ label was);
+    }

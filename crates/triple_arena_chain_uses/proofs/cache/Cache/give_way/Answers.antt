@@ -3,8 +3,7 @@ use Rattle.std.proofs.Common.{suc, ◌≡◌, ◌⊎◌, ℕ, ◌+◌, nat_eq, i
 use Rattle.std.specs.HashMap.{get}
 use Rattle.std.specs.Map.{lookup, remove_entry}
 use Rattle.std.specs.Option.{option_map}
-use Rattle.triple_arena_base.specs.Invalidation.{allowed_option}
-use Rattle.triple_arena_ptr.specs.Pointers.{Pointer}
+use Rattle.triple_arena_chain.specs.Pointers.{Pointer}
 use Rattle.triple_arena_chain.specs.Chains.{nodes, value_at, after_at, IsInserted, IsRemoved}
 use Rattle.triple_arena_chain_uses.specs.Cache.{CacheState, uses_from, place_in, exchanged}
 use Rattle.triple_arena_chain_uses.proofs.Caching.{on_ok, if_ok, surely_ok, replaced_in, has_place, place_there, fresh_place, bare_stays, pair_of_key, pair_is_this, some_of_map, turned, turned_entries}
@@ -44,7 +43,7 @@ unwrap-had-requires g c =
     let at : place_in numbers c.have_place.new.places c.args.gone ≡ Some p = ap (option_map numbers) (sym c.get-place.ensures.value ∙ ap option_copied c.unwrap-at.ensures) in
     let pair_is =
     pair_of_key (nodes c.self.inside.uses) c.self.inside.uses.len (numbers c.self.inside.bare) (place_in numbers c.have_place.new.places) c.self.inside.most c.self.invariant.0 is c.args.gone p at c.allow-pair.result
-    (if_ok (λ t. value_at (nodes c.self.inside.uses) p ≡ Some (allowed_option t)) c.remove-taken.result c.unwrap-told.result c.unwrap-told.ensures c.remove-taken.ensures.value ∙ ap Some (sym c.allow-pair.ensures)) in
+    ((if_ok _ c.remove-taken.result c.unwrap-told.result c.unwrap-told.ensures c.remove-taken.ensures.answer).value ∙ ap Some (sym c.allow-pair.ensures)) in
     ap is_some pair_is
 
 pub unwrap-q-requires : goal.unwrap-q-requires
@@ -54,7 +53,7 @@ unwrap-q-requires g c =
     let at : place_in numbers c.have_place.new.places c.args.gone ≡ Some p = ap (option_map numbers) (sym c.get-place.ensures.value ∙ ap option_copied c.unwrap-at.ensures) in
     let removed : IsRemoved (nodes c.self.inside.uses) p (nodes c.remove-taken.new.self) = on_ok _ c.remove-taken.result c.unwrap-told.result c.unwrap-told.ensures c.remove-taken.ensures.removed in
     let one : c.remove-taken.new.self.len + 1 ≡ c.self.inside.uses.len = on_ok _ c.remove-taken.result c.unwrap-told.result c.unwrap-told.ensures c.remove-taken.ensures.len in
-    (c.insert-put.ensures.had_place (bare_stays (nodes c.self.inside.uses) c.self.inside.uses.len (numbers c.self.inside.bare) (place_in numbers c.have_place.new.places) c.self.inside.most c.self.invariant.0 is c.args.gone p at (nodes c.remove-taken.new.self) removed) (omega (arith, one, c.remove-taken.ensures.capacity, c.len-len.ensures.fits))).0
+    (c.insert-put.ensures.room (bare_stays (nodes c.self.inside.uses) c.self.inside.uses.len (numbers c.self.inside.bare) (place_in numbers c.have_place.new.places) c.self.inside.most c.self.invariant.0 is c.args.gone p at (nodes c.remove-taken.new.self) removed)).had_place (omega (arith, one, c.remove-taken.ensures.room.capacity, c.len-len.ensures.fits))
 
 pub give_place-requires-clause-there : goal.give_place-requires-clause-there
 give_place-requires-clause-there g c =
@@ -76,11 +75,11 @@ invariant_of-self-2 g c =
       | inr none ↦ inr (fresh_place (nodes c.self.inside.uses) c.self.inside.uses.len (numbers c.self.inside.bare) (place_in numbers c.have_place.new.places) c.self.inside.most c.self.invariant.0 is c.args.key (subst (λ (s : CacheState g.row.T.Denot). lookup (nat_eq c.args.key) s.entries ≡ None) (sym c.self.view_is) none))
     ] in
     let put = if_ok (λ (q : ℕ × ℕ). IsInserted (nodes c.remove-taken.new.self) (Some (numbers c.self.inside.bare)) (after_at (nodes c.remove-taken.new.self) (numbers c.self.inside.bare)) (numbers q) (Some (c.args.key, c.exchange-first.result.0)) (nodes c.insert-put.new.self)) c.insert-put.result c.unwrap-q.result c.unwrap-q.ensures c.insert-put.ensures.inserted in
-    let again : c.insert-put.new.self.len ≡ c.remove-taken.new.self.len + 1 = on_ok _ c.insert-put.result c.unwrap-q.result c.unwrap-q.ensures c.insert-put.ensures.len in
+    let again : c.insert-put.new.self.len ≡ c.remove-taken.new.self.len + 1 = (on_ok _ c.insert-put.result c.unwrap-q.result c.unwrap-q.ensures c.insert-put.ensures.size).len in
     let turns = turned (nodes c.self.inside.uses) c.self.inside.uses.len (numbers c.self.inside.bare) (place_in numbers c.have_place.new.places) c.self.inside.most c.self.invariant.0 is c.args.gone p at (nodes c.remove-taken.new.self) c.remove-taken.new.self.len removed one c.args.key c.exchange-first.result.0 fresh (numbers c.unwrap-q.result) (nodes c.insert-put.new.self) c.insert-put.new.self.len put again
     (place_in numbers c.give_place.new.places) (λ r. replaced_in numbers c.args.gone c.args.key r c.unwrap-q.result (get nat_eq c.have_place.new.places r) (get nat_eq c.give_place.new.places r) (c.give_place.ensures r)) in
-    let limit : c.insert-put.new.self.limit ≡ c.remove-taken.new.self.limit = on_ok _ c.insert-put.result c.unwrap-q.result c.unwrap-q.ensures c.insert-put.ensures.limit in
-    (turns.0, turns.1, limit ∙ c.remove-taken.ensures.limit ∙ c.self.invariant.2)
+    let limit : c.insert-put.new.self.limit ≡ c.remove-taken.new.self.limit = (on_ok _ c.insert-put.result c.unwrap-q.result c.unwrap-q.ensures c.insert-put.ensures.size).limit in
+    (turns.0, turns.1, limit ∙ c.remove-taken.ensures.room.limit ∙ c.self.invariant.2)
 
 pub returns-clause-put : goal.returns-clause-put
 returns-clause-put g c =
@@ -91,14 +90,14 @@ returns-clause-put g c =
     let one : c.remove-taken.new.self.len + 1 ≡ c.self.inside.uses.len = on_ok _ c.remove-taken.result c.unwrap-told.result c.unwrap-told.ensures c.remove-taken.ensures.len in
     let pair_is =
     pair_of_key (nodes c.self.inside.uses) c.self.inside.uses.len (numbers c.self.inside.bare) (place_in numbers c.have_place.new.places) c.self.inside.most c.self.invariant.0 is c.args.gone p at c.allow-pair.result
-    (if_ok (λ t. value_at (nodes c.self.inside.uses) p ≡ Some (allowed_option t)) c.remove-taken.result c.unwrap-told.result c.unwrap-told.ensures c.remove-taken.ensures.value ∙ ap Some (sym c.allow-pair.ensures)) in
+    ((if_ok _ c.remove-taken.result c.unwrap-told.result c.unwrap-told.ensures c.remove-taken.ensures.answer).value ∙ ap Some (sym c.allow-pair.ensures)) in
     let fresh : (c.args.key ≡ c.args.gone) ⊎ (place_in numbers c.have_place.new.places c.args.key ≡ None) =
     elim c.requires.fresh [
       | inl same ↦ inl same
       | inr none ↦ inr (fresh_place (nodes c.self.inside.uses) c.self.inside.uses.len (numbers c.self.inside.bare) (place_in numbers c.have_place.new.places) c.self.inside.most c.self.invariant.0 is c.args.key (subst (λ (s : CacheState g.row.T.Denot). lookup (nat_eq c.args.key) s.entries ≡ None) (sym c.self.view_is) none))
     ] in
     let put = if_ok (λ (q : ℕ × ℕ). IsInserted (nodes c.remove-taken.new.self) (Some (numbers c.self.inside.bare)) (after_at (nodes c.remove-taken.new.self) (numbers c.self.inside.bare)) (numbers q) (Some (c.args.key, c.exchange-first.result.0)) (nodes c.insert-put.new.self)) c.insert-put.result c.unwrap-q.result c.unwrap-q.ensures c.insert-put.ensures.inserted in
-    let again : c.insert-put.new.self.len ≡ c.remove-taken.new.self.len + 1 = on_ok _ c.insert-put.result c.unwrap-q.result c.unwrap-q.ensures c.insert-put.ensures.len in
+    let again : c.insert-put.new.self.len ≡ c.remove-taken.new.self.len + 1 = (on_ok _ c.insert-put.result c.unwrap-q.result c.unwrap-q.ensures c.insert-put.ensures.size).len in
     let found = is.found c.args.gone p at in
     let same = pair_is_this c.args.gone found.1 c.unwrap-had.result (sym pair_is ∙ c.unwrap-had.ensures) in
     let parts : c.exchange-first.result ≡ exchanged c.args.value found.1 = c.exchange-first.ensures ∙ ap (λ x. exchanged c.args.value x.1) (sym same) in

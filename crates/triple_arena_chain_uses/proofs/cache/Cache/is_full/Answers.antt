@@ -1,5 +1,5 @@
 use Rattle.std.proofs.Common.{suc, ◌≡◌, ℕ, ◌≤◌, ◌<◌, length, subst, arith}
-use Rattle.triple_arena_ptr.specs.Pointers.{Pointer}
+use Rattle.triple_arena_chain.specs.Pointers.{Pointer}
 use Rattle.triple_arena_chain.specs.Chains.{nodes}
 use Rattle.triple_arena_chain_uses.specs.Cache.{CacheState, place_in}
 use Rattle.triple_arena_chain_uses.proofs.Caching.{counted_entries, entries_within}

@@ -2,7 +2,7 @@ use Rattle.std.specs.Prelude.{List, [], ◌∷◌, ◌++◌, MatchOption, IfSome
 use Rattle.std.proofs.Common.{suc, ◌≡◌, ◌-◌, ℕ, nat_eq, length, take, IsSome, Some, sym, ap, ◌∙◌, subst}
 use Rattle.std.specs.Map.{lookup, remove_entry}
 use Rattle.std.specs.Option.{option_map, option_and_then}
-use Rattle.triple_arena_ptr.specs.Pointers.{Pointer}
+use Rattle.triple_arena_chain.specs.Pointers.{Pointer}
 use Rattle.triple_arena_chain.specs.Chains.{nodes, before_at}
 use Rattle.triple_arena_chain_uses.specs.Cache.{CacheState, place_in}
 use Rattle.triple_arena_chain_uses.proofs.Caching.{oldest_told, oldest_goes, has_before, none_some}

@@ -2,7 +2,7 @@ use Rattle.std.specs.Prelude.{option_copied}
 use Rattle.std.proofs.Common.{suc, ◌≡◌, ℕ, nat_eq, None, sym, ap, ◌∙◌, subst}
 use Rattle.std.specs.Map.{lookup}
 use Rattle.std.specs.Option.{option_map, option_and_then}
-use Rattle.triple_arena_ptr.specs.Pointers.{Pointer}
+use Rattle.triple_arena_chain.specs.Pointers.{Pointer}
 use Rattle.triple_arena_chain.specs.Chains.{nodes}
 use Rattle.triple_arena_chain_uses.specs.Cache.{CacheState, place_in}
 use Rattle.triple_arena_chain_uses.proofs.Caching.{peeked, none_peeked}

@@ -1,6 +1,6 @@
 use Rattle.std.specs.Prelude.{◌∷◌}
 use Rattle.std.proofs.Common.{suc, ℕ, ◌-◌, nat_eq, take, sym, ap, ◌∙◌}
-use Rattle.triple_arena_ptr.specs.Pointers.{Pointer}
+use Rattle.triple_arena_chain.specs.Pointers.{Pointer}
 use Rattle.triple_arena_chain_uses.specs.Cache.{CacheState}
 use Rattle.triple_arena_chain_uses.proofs.Caching.{none_removed}
 use Rattle.triple_arena_chain_uses.proofs.cache.Cache.put.Goals as goal

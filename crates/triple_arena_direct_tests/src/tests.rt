@@ -9,3 +9,4 @@ mod shown;
 mod strict;
 mod strict_calls;
 mod strict_ends;
+mod texts;

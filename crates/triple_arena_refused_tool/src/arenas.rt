@@ -57,11 +57,22 @@ fn call_twice<A: Tried>(
     Ok(End::Refused)
 }
 
-// Whether entries have their indexes as numbers up to this length, once they are inserted.
-fn fill_to<A: Tried>(alloc: Global, arena: &mut A, len: usize) -> bool {
+// The same insertion, of another row.
+fn with_row(call: Call, row: Row) -> Call {
+    match call {
+        Call::InsertReallocating(_) => Call::InsertReallocating(row),
+        Call::EntryInsert(_) => Call::EntryInsert(row),
+        Call::EntryInsertReallocating(_) => Call::EntryInsertReallocating(row),
+        _ => Call::Insert(row),
+    }
+}
+
+// Whether entries have their indexes as numbers up to this length, once they are inserted by such a call, for which there
+// is room.
+fn fill_to<A: Tried>(alloc: Global, arena: &mut A, call: Call, len: usize) -> bool {
     let mut is_done = true;
     for index in arena.seen().len.saturating_add(1)..=len {
-        let told = arena.answer(alloc, Call::Insert(plain(index as u64)));
+        let told = arena.answer(alloc, with_row(call, plain(index as u64)));
         is_done &= told == Told::At(index, 2);
     }
     is_done
@@ -82,7 +93,7 @@ fn grown(full: State) -> State {
     }
 }
 
-// Fills an arena under this limit, and then makes the insertion, which doubles the room.
+// Fills an arena under this limit by insertions that take no memory, and then makes one more, which doubles the room.
 fn grows<A: Tried>(
     alloc: Global,
     arena: &mut A,
@@ -90,7 +101,7 @@ fn grows<A: Tried>(
     limit: Option<usize>,
 ) -> Result<End, Wrong> {
     let capacity = arena.seen().capacity;
-    let is_filled = fill_to(alloc, arena, capacity);
+    let is_filled = fill_to(alloc, arena, call, capacity);
     let full = arena.seen();
     let is_full = full.len == full.capacity && full.limit == limit;
     let index = full.len.saturating_add(1);
@@ -188,7 +199,7 @@ const FIVE_REMOVALS: &[Call] = &[
 
 // Reallocations of an arena of seven places, of which five were freed, so that its free list is tidied.
 fn reallocates<A: Tried>(alloc: Global, arena: &mut A, limit: Option<usize>) -> Result<End, Wrong> {
-    let is_filled = fill_to(alloc, arena, 7);
+    let is_filled = fill_to(alloc, arena, Call::Insert(NINE), 7);
     make_each(alloc, arena, FIVE_REMOVALS)?;
     let left = State {
         free: free_indexes(&[1, 3]),
@@ -203,7 +214,7 @@ fn reallocates<A: Tried>(alloc: Global, arena: &mut A, limit: Option<usize>) -> 
 // Of five entries the first and then the third are removed, and a reallocation is refused: the capacity is
 // still 8, and the free list is tidied, so that the next insertion takes the first index. All else is as it was.
 fn worked<A: Tried>(alloc: Global, arena: &mut A) -> Result<End, Wrong> {
-    let is_filled = fill_to(alloc, arena, 5);
+    let is_filled = fill_to(alloc, arena, Call::Insert(NINE), 5);
     make_each(alloc, arena, &[Call::Remove(1), Call::Remove(3)])?;
     let before = arena.seen();
     let told = arena.answer(alloc, Call::Reallocate(100));

@@ -105,17 +105,29 @@ fn nodes(link: Link) -> [Call; 4] {
     ]
 }
 
+// Makes these calls on an arena without entries, which is compacted first: that takes no memory.
+fn begins<A: Tried + Compacted>(
+    alloc: Global,
+    arena: &mut A,
+    compaction: Compaction,
+    calls: &[Call],
+) -> Result<(), Wrong> {
+    let told = arena.compact(alloc, compaction, &mut None);
+    holds(told == Told::Done, Wrong::Answer(0))?;
+    make_each(alloc, arena, calls)
+}
+
 /// Compacts an arena.
 pub fn on_heap(alloc: Global, case: &Case) -> Result<End, Wrong> {
     let mut arena = OnHeap::with_room(alloc, 3)?;
-    make_each(alloc, &mut arena, &nodes(case.link))?;
+    begins(alloc, &mut arena, case.compaction, &nodes(case.link))?;
     compacts(alloc, &mut arena, case, 4)
 }
 
 // A strict arena of three nodes.
 fn strict_nodes(alloc: Global, link: Link) -> Result<Strict, Wrong> {
     let mut arena = Strict::with_room(alloc, 3)?;
-    make_each(alloc, &mut arena, &nodes(link))?;
+    begins(alloc, &mut arena, Compaction::Renamed, &nodes(link))?;
     Ok(arena)
 }
 
@@ -131,7 +143,7 @@ fn directly(alloc: Global, case: &Case) -> Result<End, Wrong> {
         Call::Place(3, 2, with_link(3, case.link)),
     ];
     let mut arena = Direct::with_room(alloc, 3)?;
-    make_each(alloc, &mut arena, &nodes)?;
+    begins(alloc, &mut arena, case.compaction, &nodes)?;
     compacts(alloc, &mut arena, case, 2)
 }
 

@@ -43,8 +43,8 @@ fn direct_target(alloc: Global) -> Result<Direct, Wrong> {
     direct(alloc, 4, &calls)
 }
 
-// The numbers up to five, and no more room.
-fn numbers(alloc: Global) -> Result<OnHeap, Wrong> {
+// Inserts the numbers up to five.
+fn insert_five(alloc: Global, arena: &mut OnHeap) -> Result<(), Wrong> {
     let calls = [
         Call::Insert(plain(1)),
         Call::Insert(plain(2)),
@@ -52,8 +52,13 @@ fn numbers(alloc: Global) -> Result<OnHeap, Wrong> {
         Call::Insert(plain(4)),
         Call::Insert(plain(5)),
     ];
+    make_each(alloc, arena, &calls)
+}
+
+// Five numbers, and no more room.
+fn numbers(alloc: Global) -> Result<OnHeap, Wrong> {
     let mut arena = OnHeap::with_room(alloc, 5)?;
-    make_each(alloc, &mut arena, &calls)?;
+    insert_five(alloc, &mut arena)?;
     Ok(arena)
 }
 
@@ -189,8 +194,13 @@ fn gone_over(before: &State) -> State {
     state.tidied()
 }
 
-// Five entries go over to an arena with room for four, and once more where that is refused.
-fn goes_over<A: Tried + Goal>(target: &mut A, source: &mut OnHeap) -> Result<End, Wrong> {
+// Five entries go over to an arena with room for four, and once more where that is refused. Then there is room for five more,
+// which takes no memory.
+fn goes_over<A: Tried + Goal>(
+    alloc: Global,
+    target: &mut A,
+    source: &mut OnHeap,
+) -> Result<End, Wrong> {
     let (before, of_source) = (target.seen(), source.seen());
     let mut told = target.take(source, Copying::Transferred);
     let (mut end, mut is_left) = (End::Ample, true);
@@ -201,17 +211,20 @@ fn goes_over<A: Tried + Goal>(target: &mut A, source: &mut OnHeap) -> Result<End
     }
     let is_gone = source.seen().len == 0 && target.seen() == gone_over(&before);
     holds(is_left && is_gone && told == (None, 0), Wrong::State(3))?;
+    insert_five(alloc, source)?;
+    let told = target.take(source, Copying::Transferred);
+    holds(told == (None, 0) && source.seen().len == 0, Wrong::State(4))?;
     Ok(end)
 }
 
 fn transfer(alloc: Global) -> Result<End, Wrong> {
     let mut source = numbers(alloc)?;
-    goes_over(&mut target(alloc)?, &mut source)
+    goes_over(alloc, &mut target(alloc)?, &mut source)
 }
 
 fn direct_transfer(alloc: Global) -> Result<End, Wrong> {
     let mut source = numbers(alloc)?;
-    goes_over(&mut direct_target(alloc)?, &mut source)
+    goes_over(alloc, &mut direct_target(alloc)?, &mut source)
 }
 
 fn clone_into(alloc: Global, source: &mut OnHeap, copying: Copying) -> Result<End, Wrong> {

@@ -80,10 +80,15 @@ fn seen<K: NonZeroInxGenericStack<u64>>(stack: &NonZeroInxStack<u64, K>) -> Seen
     )
 }
 
-// Fills a stack up to its capacity; each item is the number of its index.
-fn fill<K: NonZeroInxGenericStack<u64>>(stack: &mut NonZeroInxStack<u64, K>) {
+// Fills a stack up to its capacity by pushes of this kind, or within the capacity, which take no memory; each item is the
+// number of its index.
+fn fill<K: NonZeroInxGenericStack<u64>>(stack: &mut NonZeroInxStack<u64, K>, call: Call) {
     for at in stack.len()..stack.capacity() {
-        let _pushed = stack.push_within_capacity((at as u64).wrapping_add(1));
+        if matches!(call, Call::ReallocateUp) {
+            let _pushed = stack.push_within_capacity((at as u64).wrapping_add(1));
+        } else {
+            let _pushed = refusal_of(stack, call);
+        }
     }
 }
 
@@ -105,7 +110,7 @@ fn call_twice<K: NonZeroInxGenericStack<u64>>(
     limit: Option<usize>,
 ) -> Result<End, Wrong> {
     if !matches!(call, Call::ReallocateDown) {
-        fill(stack);
+        fill(stack, call);
     }
     let before = seen(stack);
     let mut refusal = refusal_of(stack, call);

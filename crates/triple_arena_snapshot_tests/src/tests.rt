@@ -3,15 +3,18 @@
 //! thousands of entries.
 
 mod arenas;
+mod bad_files;
 mod bytes;
 mod circuits;
 mod coupons;
 mod devices;
 mod files;
 mod flip_flop;
+mod more_types;
 mod on_disk;
 mod random;
 mod round_trips;
 mod set_points;
 mod sizes;
 mod streams;
+mod texts;

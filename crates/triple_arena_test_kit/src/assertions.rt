@@ -2,7 +2,7 @@
 //! the line of the test, and tells what was there.
 
 use std::alloc::Global;
-use std::fmt::Debug;
+use std::fmt::{Debug, Display};
 
 /// A value in the place of the wanted one.
 #[derive(Debug, Drop)]
@@ -34,4 +34,19 @@ pub fn is_shown<T: Debug>(alloc: Global, value: &T, text: &str) -> Result<(), Un
         Ok(shown) => Err(Unlike::Written(shown)),
         Err(_) => Err(Unlike::NoMemory),
     }
+}
+
+/// That Display and Debug write these texts, in this order, of the value beside them; else what they write.
+pub fn are_written<T: Display + Debug>(
+    alloc: Global,
+    texts: &[(T, &str, &str)],
+) -> Result<(), Unlike> {
+    for (value, displayed, shown) in texts {
+        match format!(in alloc; "{value}") {
+            Ok(text) if text.as_str() == *displayed => is_shown(alloc, value, shown)?,
+            Ok(text) => return Err(Unlike::Written(text)),
+            Err(_) => return Err(Unlike::NoMemory),
+        }
+    }
+    Ok(())
 }

@@ -8,7 +8,7 @@ mod numbered;
 mod pointers;
 mod scarce_stack;
 
-pub use assertions::{Unequal, Unlike, is, is_shown};
+pub use assertions::{Unequal, Unlike, are_written, is, is_shown};
 pub use b::B;
 pub use numbered::{Numbered, index_number, inx, named_index, numbers_of, pointer};
 pub use pointers::{Narrow, PtrOf, Wide};

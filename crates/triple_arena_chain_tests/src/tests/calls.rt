@@ -2,15 +2,17 @@
 
 use crate::tests::chains::Answer::{Done, Entries, Four, Is, NoValue, Refused, Value};
 use crate::tests::chains::Call::{
-    Advance, Backwards, Compress, Contains, CutAfter, CutBefore, InsertAfter, InsertBefore,
-    InsertNew, Join, Onwards, PushBack, Remove, RemoveChain, Rest, Walk, Write,
+    Advance, All, Backwards, Clear, Compress, Contains, CutAfter, CutBefore, InsertAfter,
+    InsertBefore, InsertNew, IsEmpty, Join, Onwards, PushBack, Reallocate, Remove, RemoveChain,
+    Rest, Walk, Write,
 };
 use crate::tests::chains::{Answer, Row, Wrong};
 use crate::tests::sets::{Answer as Told, Call};
 use crate::tests::{chains, sets};
 use std::alloc::Global;
 use std::process::Abort;
-use triple_arena_chain::ChainError::{NoEntry, Taken};
+use triple_arena_chain::ChainError::{NoEntry, NoRoom, Taken};
+use triple_arena_surject::SurjectError::{NoEntry as NoSuchKey, NoRoom as NoRoomForKeys};
 
 // The entry of each value in a chain from 1 to 4, and one that isn't there.
 const ONE: usize = 2;
@@ -103,6 +105,26 @@ fn a_ring_is_compressed(rt: HostRuntime) {
     follow(&rt, rt.alloc(), COMPRESSED).expect(&rt, "its answers");
 }
 
+// Over an arena that has room for two, and never more.
+const FILLED: &[Row] = &[
+    (IsEmpty, Is(true), 0),
+    (InsertNew(1), Done, 1),
+    (PushBack(0, 2), Done, 2),
+    (All, Entries(2), 2),
+    (InsertNew(3), Refused(NoRoom), 2),
+    (Reallocate(3), Refused(NoRoom), 2),
+    (Reallocate(2), Entries(2), 2),
+    (Clear, Done, 0),
+    (Onwards(0), Four([0, 0, 0, 0]), 0),
+    (InsertNew(4), Done, 1),
+    (All, Entries(1), 1),
+];
+
+#[test]
+fn chains_fill_an_arena_that_has_no_more_room(rt: HostRuntime) {
+    chains::follow_within(&rt, rt.alloc(), 2, FILLED).expect(&rt, "their answers");
+}
+
 // Beside a chain of 5 alone.
 const WALKED_AND_REMOVED: &[Row] = &[
     (InsertNew(5), Done, 5),
@@ -169,15 +191,41 @@ const WIRED: &[sets::Row] = &[
     (Call::Write(2, 40), Told::Is(true), 3, 1),
     (Call::Net(0, 2), Told::OnNet(Some(40), Some(3), true), 3, 1),
     (Call::KeySet(1), Told::Keys(3), 3, 1),
+    (Call::SetPtrs(1), Told::Keys(3), 3, 1),
+    (Call::SetPtrs(9), Told::Keys(0), 3, 1),
+    (Call::IsEmpty, Told::Is(false), 3, 1),
     (Call::RemoveKey(0), Told::Gone(1, None), 2, 1),
     (Call::Contains(0), Told::Is(false), 2, 1),
     (Call::Contains(1), Told::Is(true), 2, 1),
     (Call::Compress, Told::Done, 2, 1),
     (Call::GetKey(2), Told::Key(Some(3)), 2, 1),
     (Call::Remove(2), Told::Val(40), 0, 0),
+    (Call::Insert(4, 50), Told::Done, 1, 1),
+    (Call::Clear, Told::Done, 0, 0),
+    (Call::IsEmpty, Told::Is(true), 0, 0),
 ];
 
 #[test]
 fn each_call_of_sets(rt: HostRuntime) {
     sets::follow(&rt, rt.alloc(), WIRED).expect(&rt, "their answers");
+    sets::follow_with_room(&rt, rt.alloc(), 3, 2, WIRED).expect(&rt, "their answers");
+}
+
+// The arena of keys has two places, which is its limit, and that of values grows: the second key has a place, and the
+// third none.
+const TWO_PLACES: &[sets::Row] = &[
+    (Call::IsEmpty, Told::Is(true), 0, 0),
+    (Call::Insert(1, 10), Told::Done, 1, 1),
+    (Call::Insert(2, 20), Told::Done, 2, 2),
+    (Call::Insert(3, 30), Told::Refused(NoRoomForKeys), 2, 2),
+    (Call::InsertKey(0, 3), Told::Refused(NoRoomForKeys), 2, 2),
+    (Call::InsertKey(9, 3), Told::Refused(NoSuchKey), 2, 2),
+    (Call::RemoveKey(0), Told::Gone(1, Some(10)), 1, 1),
+    (Call::InsertKey(1, 3), Told::Done, 2, 1),
+    (Call::Net(2, 1), Told::OnNet(Some(20), Some(2), true), 2, 1),
+];
+
+#[test]
+fn an_arena_of_sets_that_has_a_place_need_not_grow(rt: HostRuntime) {
+    sets::follow_in_two_places(&rt, rt.alloc(), TWO_PLACES).expect(&rt, "their answers");
 }

@@ -5,10 +5,11 @@ use crate::tests::pointers::Pointers;
 use crate::tests::values::{Live, Value, new_value, no_values};
 use std::alloc::Global;
 use std::process::Abort;
-use triple_arena::{Arena, ArenaInsertTrait, CompactArenaTrait};
-use triple_arena_base::{Advancer, InvalidationOption};
-use triple_arena_chain::{ChainAdvancer, ChainError, Chains, DirectArena, Link, Place};
-use triple_arena_ptr::P0;
+use triple_arena_chain::prelude::{Advancer, ArenaInsertTrait, ArenaTrait, CompactArenaTrait};
+use triple_arena_chain::{
+    Arena, ArenaSlot, ChainAdvancer, ChainError, Chains, DirectArena, InvalidationOption, Link,
+    NonZeroInxBoxedSlice, P0, Place,
+};
 
 /// A call of chains. An entry has a number: that which is inserted first 0, the next 1, and so on.
 #[derive(Clone, Copy)]
@@ -21,6 +22,7 @@ pub enum Call {
     Write(usize, u64),
     Remove(usize),
     RemoveChain(usize),
+    Clear,
     CutBefore(usize),
     CutAfter(usize),
     Join(usize, usize),
@@ -31,6 +33,11 @@ pub enum Call {
     /// `get` and `before`, from an entry back.
     Backwards(usize),
     Rest(usize),
+    /// `iter`, of which it is asked how many entries are left.
+    All,
+    IsEmpty,
+    /// `reallocate_min_capacity`, and then how many entries fit.
+    Reallocate(usize),
     /// `walk`, which begins at an entry; the one before it is given up.
     Walk(usize),
     /// A step of that walk.
@@ -67,10 +74,28 @@ pub enum Wrong {
     Left(usize),
 }
 
-/// Makes the calls of a table on new chains.
+/// Makes the calls of a table on new chains, with room for a good many.
 pub fn follow(rt: &impl Abort, alloc: Global, rows: &[Row]) -> Result<(), Wrong> {
+    follow_within(rt, alloc, 40_000, rows)
+}
+
+// An arena that has this room, and never more.
+type Fixed = Arena<P0, Link<P0, Value>, NonZeroInxBoxedSlice<ArenaSlot<P0, Link<P0, Value>>>>;
+
+/// Makes the calls of a table on chains over an arena that has room for so many, once chains with an arena of
+/// their own had as much.
+pub fn follow_within(
+    rt: &impl Abort,
+    alloc: Global,
+    room: usize,
+    rows: &[Row],
+) -> Result<(), Wrong> {
     let live = no_values(rt, alloc);
-    let mut chains: Chains<P0, Value, Arena<P0, Link<P0, Value>>> = Chains::new(alloc);
+    let own: Chains<P0, Value, Fixed> = Chains::with_min_capacity(alloc, room).expect(rt, "memory");
+    let arena: Fixed = Arena::with_min_capacity(alloc, own.capacity()).expect(rt, "memory");
+    let Ok(mut chains) = Chains::over(arena) else {
+        return Err(Wrong::Left(live.get()));
+    };
     follow_on(rt, alloc, &mut chains, &live, rows)?;
     drop(chains);
     match live.get() {
@@ -96,6 +121,7 @@ fn follow_on<A: CompactArenaTrait<P0, Link<P0, Value>> + ArenaInsertTrait<P0, Li
             .or(ending(alloc, chains, &mut entries, live, *call))
             .or(linking(chains, &entries, live, *call))
             .or(reading(rt, alloc, chains, &entries, *call))
+            .or(showing(chains, *call))
             .or(walking(chains, &mut walk, &entries, *call));
         if told != Some(*wanted) || chains.len() != *len || live.get() != *len {
             return Err(Wrong::Row(number, told, chains.len(), live.get()));
@@ -137,6 +163,10 @@ fn ending<A: CompactArenaTrait<P0, Link<P0, Value>> + ArenaInsertTrait<P0, Link<
     match call {
         Call::Remove(at) => Some(taken(chains.remove(entries.at(at)), live.get())),
         Call::RemoveChain(at) => Some(counted(chains.remove_chain(entries.at(at)))),
+        Call::Clear => Some(match chains.clear() {
+            InvalidationOption::Success(()) => Answer::Done,
+            InvalidationOption::GenerationOverflow(()) => Answer::Wrapped,
+        }),
         Call::Compress => Some(renamed(entries, chains.compress(alloc))),
         _ => None,
     }
@@ -200,6 +230,22 @@ fn reading<A: CompactArenaTrait<P0, Link<P0, Value>> + ArenaInsertTrait<P0, Link
             let rest = chains.rest(entries.at(at), alloc).expect(rt, "memory");
             Some(Answer::Entries(rest.len()))
         }
+        _ => None,
+    }
+}
+
+// The answer of a call on all chains.
+fn showing<A: CompactArenaTrait<P0, Link<P0, Value>> + ArenaInsertTrait<P0, Link<P0, Value>>>(
+    chains: &mut Chains<P0, Value, A>,
+    call: Call,
+) -> Option<Answer> {
+    match call {
+        Call::All => Some(Answer::Entries(chains.iter().len())),
+        Call::IsEmpty => Some(Answer::Is(chains.is_empty())),
+        Call::Reallocate(least) => Some(match chains.reallocate_min_capacity(least) {
+            Ok(()) => Answer::Entries(chains.capacity()),
+            Err(refusal) => Answer::Refused(refusal),
+        }),
         _ => None,
     }
 }

@@ -1,4 +1,4 @@
-//! Values that are counted, in chains and in a cache: each is dropped once.
+//! Values that are counted, in chains, in sets of keys and in a cache: each is dropped once.
 
 use crate::tests::chains::Answer::{Done, Entries, Is, Refused, Taken};
 use crate::tests::chains::Call::{
@@ -9,8 +9,12 @@ use crate::tests::values::{Live, Value, new_value, no_values};
 use std::alloc::Global;
 use std::num::NonZeroUsize;
 use std::process::Abort;
+use triple_arena::{Arena, ArenaInsertTrait, ArenaSlot, CompactArenaTrait, NonZeroInxArray};
 use triple_arena_chain::ChainError::NoEntry;
+use triple_arena_chain::Link;
 use triple_arena_chain_uses::Cache;
+use triple_arena_ptr::{P0, Ptr};
+use triple_arena_surject::{Member, Shared, SurjectArena, SurjectError};
 use triple_arena_test_kit::is;
 
 // Each call that ends, replaces or refuses a value, of a chain of three and one beside it: after each row there are as
@@ -58,5 +62,50 @@ fn each_put(rt: &impl Abort, alloc: Global, live: &Live) {
 fn each_value_of_a_cache_is_dropped_once(rt: HostRuntime) {
     let live = no_values(&rt, rt.alloc());
     each_put(&rt, rt.alloc(), &live);
+    is(live.get(), 0).expect(&rt, "the count");
+}
+
+// A key.
+type Key = Link<P0, Member<P0, Value>>;
+
+// Two places for keys.
+type Keys = Arena<P0, Key, NonZeroInxArray<ArenaSlot<P0, Key>, 2>>;
+
+type Sets = SurjectArena<P0, Value, Value, Keys, Arena<P0, Shared<Value>>>;
+
+// What refuses a new set, where there is no place for its key, and another key of this set; and then a key and a value of
+// no set.
+fn refuses_each<
+    A: CompactArenaTrait<P0, Key> + ArenaInsertTrait<P0, Key>,
+    B: ArenaInsertTrait<P0, Shared<Value>>,
+>(
+    sets: &mut SurjectArena<P0, Value, Value, A, B>,
+    p: P0,
+    live: &Live,
+) -> [Option<SurjectError>; 4] {
+    let none = P0::invalid();
+    [
+        sets.insert(new_value(live, 3), new_value(live, 30)).err(),
+        sets.insert_key(p, new_value(live, 3)).err(),
+        sets.insert_key(none, new_value(live, 3)).err(),
+        sets.replace_val(none, new_value(live, 30)).err(),
+    ]
+}
+
+#[test]
+fn keys_and_values_that_are_refused_are_dropped_once(rt: HostRuntime) {
+    let live = no_values(&rt, rt.alloc());
+    let mut sets: Sets = SurjectArena::new(rt.alloc());
+    let p = sets
+        .insert(new_value(&live, 1), new_value(&live, 10))
+        .expect(&rt, "a place");
+    sets.insert_key(p, new_value(&live, 2))
+        .expect(&rt, "a place");
+    is(live.get(), 3).expect(&rt, "the count");
+    let (no_room, no_entry) = (Some(SurjectError::NoRoom), Some(SurjectError::NoEntry));
+    let told = refuses_each(&mut sets, p, &live);
+    is(told, [no_room, no_room, no_entry, no_entry]).expect(&rt, "the refusals");
+    is(live.get(), 3).expect(&rt, "the count");
+    drop(sets.remove(p));
     is(live.get(), 0).expect(&rt, "the count");
 }

@@ -3,7 +3,9 @@
 use crate::tests::pointers::Pointers;
 use std::alloc::Global;
 use std::process::Abort;
-use triple_arena::{Arena, ArenaInsertTrait, CompactArenaTrait};
+use triple_arena::{
+    Arena, ArenaInsertTrait, ArenaSlot, ArenaTrait, CompactArenaTrait, NonZeroInxArray,
+};
 use triple_arena_base::InvalidationOption;
 use triple_arena_chain::Link;
 use triple_arena_chain_uses::nets::{name_net, wire};
@@ -27,12 +29,16 @@ pub enum Call {
     ReplaceVal(usize, u64),
     RemoveKey(usize),
     Remove(usize),
+    Clear,
     Compress,
     Contains(usize),
     GetKey(usize),
     /// `get_val` and `len_key_set` of a key, and whether another is in its set.
     Net(usize, usize),
     KeySet(usize),
+    /// `set_ptrs`, by which the keys of a set are walked and counted.
+    SetPtrs(usize),
+    IsEmpty,
 }
 
 /// What a call answers.
@@ -67,15 +73,36 @@ pub struct Wrong {
     sets: usize,
 }
 
+// What an arena of keys holds.
+type Key = Link<P0, Member<P0, u64>>;
+
 /// Makes the calls of a table on new sets.
 pub fn follow(rt: &impl Abort, alloc: Global, rows: &[Row]) -> Result<(), Wrong> {
-    let mut sets: SurjectArena<
-        P0,
-        u64,
-        u64,
-        Arena<P0, Link<P0, Member<P0, u64>>>,
-        Arena<P0, Shared<u64>>,
-    > = SurjectArena::new(alloc);
+    let mut sets: SurjectArena<P0, u64, u64> = SurjectArena::new(alloc);
+    follow_on(rt, alloc, &mut sets, rows)
+}
+
+/// Makes them on sets over two arenas: the keys have two places, and the values as many as are asked for.
+pub fn follow_in_two_places(rt: &impl Abort, alloc: Global, rows: &[Row]) -> Result<(), Wrong> {
+    let keys: Arena<P0, Key, NonZeroInxArray<ArenaSlot<P0, Key>, 2>> = Arena::new(alloc);
+    let values: Arena<P0, Shared<u64>> = Arena::new(alloc);
+    match SurjectArena::over(keys, values) {
+        Ok(mut sets) => follow_on(rt, alloc, &mut sets, rows),
+        Err((_keys, _values)) => follow(rt, alloc, &[(Call::IsEmpty, Answer::Done, 0, 0)]),
+    }
+}
+
+/// Makes them on sets with room for so many keys, and so many values.
+pub fn follow_with_room(
+    rt: &impl Abort,
+    alloc: Global,
+    keys: usize,
+    values: usize,
+    rows: &[Row],
+) -> Result<(), Wrong> {
+    let mut sets: SurjectArena<P0, u64, u64> = SurjectArena::with_min_capacity(
+        alloc, keys, values,
+    ).expect(rt, "memory");
     follow_on(rt, alloc, &mut sets, rows)
 }
 
@@ -177,6 +204,7 @@ fn ending<
     match call {
         Call::RemoveKey(at) => Some(gone(sets.remove_key(keys.at(at)))),
         Call::Remove(at) => Some(removed(sets.remove(keys.at(at)))),
+        Call::Clear => Some(cleared(sets.clear())),
         Call::Compress => Some(renamed(keys, sets.compress(alloc))),
         _ => None,
     }
@@ -206,6 +234,8 @@ fn reading<
             let all = sets.key_set(keys.at(at), alloc).expect(rt, "memory");
             Some(Answer::Keys(all.len()))
         }
+        Call::SetPtrs(at) => Some(Answer::Keys(sets.set_ptrs(keys.at(at)).count())),
+        Call::IsEmpty => Some(Answer::Is(sets.is_empty())),
         _ => None,
     }
 }
@@ -254,6 +284,13 @@ fn removed(told: Result<InvalidationOption<u64>, SurjectError>) -> Answer {
         Ok(InvalidationOption::Success(value)) => Answer::Val(value),
         Ok(InvalidationOption::GenerationOverflow(_value)) => Answer::Wrapped,
         Err(refusal) => Answer::Refused(refusal),
+    }
+}
+
+fn cleared(told: InvalidationOption<()>) -> Answer {
+    match told {
+        InvalidationOption::Success(()) => Answer::Done,
+        InvalidationOption::GenerationOverflow(()) => Answer::Wrapped,
     }
 }
 

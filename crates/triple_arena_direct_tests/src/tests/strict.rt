@@ -2,14 +2,11 @@
 
 use crate::tests::shown::{arena_is_shown, direct_is_shown, strict_is_shown};
 use std::alloc::Global;
-use std::fmt::Display;
 use std::process::Abort;
 use triple_arena::{Arena, ArenaSlot};
-use triple_arena_base::{CompactError, ReallocationError};
-use triple_arena_direct::{
-    CompactBothError, StrictArena, StrictCompactError, StrictError, into_arena, into_strict, renew,
-};
-use triple_arena_ptr::{P0, Ptr};
+use triple_arena_base::CompactError;
+use triple_arena_direct::{StrictArena, StrictError, into_arena, into_strict, renew};
+use triple_arena_ptr::P4;
 use triple_arena_stack::{NonZeroInxGenericStack, NonZeroInxVec};
 use triple_arena_test_kit::{B, is, is_shown, pointer};
 
@@ -132,6 +129,22 @@ fn the_last_raise_is_done(rt: HostRuntime) {
     is(nodes.compress(), EXHAUSTED).expect(&rt, "one more");
 }
 
+// Its counter has no end, and each number has the pointer of the one before it.
+#[test]
+fn a_strict_arena_without_generations_goes_on(rt: HostRuntime) {
+    let mut numbers: StrictArena<P4, u64> = StrictArena::new(rt.alloc());
+    let first: P4 = pointer(1, 1);
+    for number in 0..1_000 {
+        is(numbers.insert(number), Ok(first)).expect(&rt, "an insertion");
+        is(numbers.remove(first), Ok(number)).expect(&rt, "a removal");
+    }
+    is(numbers.insert(7), Ok(first)).expect(&rt, "an insertion");
+    is(numbers.invalidate(first), Ok(first)).expect(&rt, "an invalidation");
+    is(numbers.compress(), Ok(())).expect(&rt, "a compression");
+    is(numbers.get(first).copied(), Some(7)).expect(&rt, "the number");
+    is(numbers.clear(), Ok(())).expect(&rt, "a clear");
+}
+
 #[test]
 fn links_follow_a_compaction(rt: HostRuntime) {
     let mut nodes = Nodes::new(rt.alloc());
@@ -246,40 +259,4 @@ fn a_strict_arena_begins_over_a_stack(rt: HostRuntime) {
     let mut nodes = Nodes::over(stack);
     nodes.insert((80, None)).expect(&rt, "memory");
     is(nodes.get(pointer(1, 2)).copied(), Some((80, None))).expect(&rt, "the node");
-}
-
-fn displays<E: Display + Drop>(rt: &impl Abort, alloc: Global, error: E, text: &str) {
-    let written = error.to_string(alloc).expect(rt, "memory");
-    is(written.as_str(), text).expect(rt, "the text");
-}
-
-#[test]
-fn refusals_have_their_texts(rt: HostRuntime) {
-    let alloc = rt.alloc();
-    displays(
-        &rt,
-        alloc,
-        StrictError::InvalidPtr,
-        "the pointer is invalid",
-    );
-    let at_its_end = "the generation counter is at its greatest value";
-    displays(&rt, alloc, StrictError::Exhausted, at_its_end);
-    displays(&rt, alloc, StrictCompactError::<P0>::Exhausted, at_its_end);
-    let refused = StrictCompactError::Compact(CompactError::Unresolved(P0::invalid()));
-    displays(&rt, alloc, refused, "the compaction was refused");
-    let first = CompactBothError::<P0, P0>::First(CompactError::Unresolved(P0::invalid()));
-    displays(
-        &rt,
-        alloc,
-        first,
-        "the compaction of the first arena was refused: a stored pointer does not resolve",
-    );
-    let no_memory = CompactError::Reallocation(ReallocationError::AllocError);
-    let second = CompactBothError::<P0, P0>::Second(no_memory);
-    displays(
-        &rt,
-        alloc,
-        second,
-        "the compaction of the second arena was refused: the recaster could not be made",
-    );
 }

@@ -54,3 +54,24 @@ fn a_strict_arena_retains_entries(rt: HostRuntime) {
     let text = "{B[1](3): 40, B[2](2): 20, B[3](2): 30}";
     strict_is_shown(rt.alloc(), &numbers, text).expect(&rt, "the next entry");
 }
+
+// At the counter's end nothing is drained, and no closure is asked.
+#[test]
+fn a_strict_arena_at_its_end_keeps_entries(rt: HostRuntime) {
+    let mut numbers = Numbers::new(rt.alloc());
+    for _ in 2..255 {
+        enter(&mut numbers, 0, 10).expect(&rt, "memory");
+        is(drain_one(&mut numbers), Ok((1, Some(10), 0))).expect(&rt, "a drain");
+    }
+    is(drain_one(&mut numbers), Ok((0, None, 0))).expect(&rt, "the drain of none");
+    enter(&mut numbers, 0, 20).expect(&rt, "memory");
+    is(drain_one(&mut numbers), Err(StrictError::Exhausted)).expect(&rt, "a drain");
+    let mut asked: u64 = 0;
+    let kept = numbers.retain(|_p, _number| {
+        asked = asked.saturating_add(1);
+        true
+    });
+    is(kept, Err(StrictError::Exhausted)).expect(&rt, "what is kept");
+    is(asked, 0).expect(&rt, "how often the closure was asked");
+    strict_is_shown(rt.alloc(), &numbers, "{B[1](ff): 20}").expect(&rt, "the arena");
+}

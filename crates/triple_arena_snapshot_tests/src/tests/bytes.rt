@@ -57,7 +57,7 @@ impl From<DecodeError> for Unlike {
 }
 
 /// That the value's bytes are these, and that it is read of them.
-fn has_bytes<T: Codec + PartialEq + Drop>(
+pub fn has_bytes<T: Codec + PartialEq + Drop>(
     alloc: Global,
     value: &T,
     bytes: &[u8],
@@ -74,7 +74,7 @@ fn has_bytes<T: Codec + PartialEq + Drop>(
 }
 
 /// That bytes are refused for this fault, and how many are left where it is.
-fn is_refused<T: Codec + Drop>(
+pub fn is_refused<T: Codec + Drop>(
     alloc: Global,
     bytes: &[u8],
     fault: Fault,

@@ -1,6 +1,6 @@
 //! A struct of three fields that is written as bytes and read back.
 
-ghost use Rattle.std.specs.Prelude.{◌≡◌, ◌^◌, ℕ, List, Option, map, suc};
+ghost use Rattle.std.specs.Prelude.{◌≡◌, ◌^◌, ◌∷◌, ℕ, true, List, [], Option, map, suc};
 ghost use Rattle.std.specs.Int.{w64};
 ghost use Rattle.std.specs.Option.{option_map};
 ghost use Rattle.triple_arena_ptr.specs.Pointers.{Pointer};
@@ -10,7 +10,7 @@ ghost use Rattle.triple_arena_snapshot.specs.laws.CodingLaws.{wide64};
 use std::alloc::Global;
 use triple_arena_base::AllocError;
 use triple_arena_ptr::P0;
-use triple_arena_snapshot::{Codec, DecodeError};
+use triple_arena_snapshot::{Codec, DecodeError, shape_over};
 
 /// A flip-flop: what drives it, its clock, and how often it was switched.
 #[derive(Debug, PartialEq, Drop)]
@@ -31,6 +31,14 @@ impl Codec for FlipFlop {
     ghost coding = { let wide = number w64 (2 ^ 64) wide64 in
         let p0 = pointer wide wide in
         both (list p0) (both (option p0) wide) };
+
+    ghost shape = { 130 ∷ 22 ∷ 23 ∷ 25 ∷ 22 ∷ 21 ∷ 25 ∷ 4 ∷ [] };
+
+    ghost asks = { true };
+
+    fn shape_at(at: usize) -> Result<u8, usize> {
+        shape_over::<(Vec<P0>, (Option<P0>, u64))>(130, at)
+    }
 
     fn encode(&self, out: &mut Vec<u8>) -> Result<(), AllocError> {
         self.inputs.encode(out)?;

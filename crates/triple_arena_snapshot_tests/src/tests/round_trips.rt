@@ -2,6 +2,7 @@
 
 ghost use Rattle.std.specs.Prelude.{◌≡◌, []};
 
+use crate::tests::bad_files::{ARENA, DIRECT, STRICT};
 use std::alloc::Global;
 use std::process::Abort;
 use std::test::*;
@@ -16,25 +17,11 @@ use triple_arena_snapshot::{
 };
 use triple_arena_test_kit::is;
 
-/// The file of the arena of the format's page.
-const ARENA: [u8; 74] = [
-    0x74, 0x72, 0x69, 0x61, 0x72, 0x65, 0x6e, 0x61, 1, 49, 0, 0, 0, 0, 0, 0, 0, 0xff, 0xff, 0, 0,
-    0, 0, 0, 0, 2, 3, 0, 0, 0, 0, 0, 0, 0, 0, 0, 1, 2, 0, 9, 4, 0, 2, 0, 0, 0, 0, 0, 0, 0, 2, 0, 0,
-    0, 0, 0, 0, 0, 1, 0, 0, 0, 0, 0, 0, 0, 24, 2, 0, 0, 116, 99, 0, 0,
-];
-
-/// The file of the direct arena of the same entry.
-const DIRECT: [u8; 48] = [
-    0x74, 0x72, 0x69, 0x61, 0x72, 0x65, 0x6e, 0x61, 1, 23, 0, 0, 0, 0, 0, 0, 0, 0xff, 0xff, 0, 0,
-    0, 0, 0, 0, 2, 3, 0, 0, 0, 0, 0, 0, 0, 0, 0, 1, 2, 0, 9, 15, 2, 0, 0, 46, 45, 0, 0,
-];
-
 type Slot = ArenaSlot<P3, u8>;
 
 type Direct = DirectSlot<P3, u8>;
 
-// What a save writes of the arena that is loaded over this stack, or of the strict arena, whose file is that of the arena
-// inside.
+// What a save writes of the arena that is loaded over this stack, or of the strict arena.
 fn arena_again<S: NonZeroInxGenericStack<Slot> + Drop>(
     stack: S,
     alloc: Global,
@@ -44,10 +31,10 @@ fn arena_again<S: NonZeroInxGenericStack<Slot> + Drop>(
 {
     let mut written = Vec::new(alloc);
     let is_saved = if is_strict {
-        let strict = load_strict_arena(stack, alloc, &mut ARENA.as_slice())?;
+        let strict = load_strict_arena(stack, alloc, &mut &*STRICT)?;
         save_strict_arena(strict, alloc, &mut written).is_ok()
     } else {
-        let arena = load_arena(stack, alloc, &mut ARENA.as_slice())?;
+        let arena = load_arena(stack, alloc, &mut &*ARENA)?;
         save_arena(&arena, alloc, &mut written).is_ok()
     };
     if is_saved {
@@ -64,7 +51,7 @@ fn direct_arena_again<S: NonZeroInxGenericStack<Direct> + Drop>(
 ) -> Result<Vec<u8>, LoadError>
     requires { S.items stack ≡ [] }
 {
-    let arena = load_direct_arena(stack, alloc, &mut DIRECT.as_slice())?;
+    let arena = load_direct_arena(stack, alloc, &mut &*DIRECT)?;
     let mut written = Vec::new(alloc);
     match save_direct_arena(&arena, alloc, &mut written) {
         Ok(()) => Ok(written),
@@ -80,18 +67,19 @@ fn is_file(rt: &impl Abort, written: Result<Vec<u8>, LoadError>, file: &[u8]) {
 
 // That an arena is loaded over each stack, or a strict one.
 fn is_loaded_over_each_stack(rt: &impl Abort, alloc: Global, is_strict: bool) {
+    let file = if is_strict { STRICT } else { ARENA };
     let on_heap: NonZeroInxVec<Slot> = NonZeroInxVec::new(alloc);
-    is_file(rt, arena_again(on_heap, alloc, is_strict), &ARENA);
+    is_file(rt, arena_again(on_heap, alloc, is_strict), file);
     let limited: NonZeroInxLimitedVec<Slot> = NonZeroInxLimitedVec::with_min_capacity(
         alloc, 3,
     ).expect(rt, "memory");
-    is_file(rt, arena_again(limited, alloc, is_strict), &ARENA);
+    is_file(rt, arena_again(limited, alloc, is_strict), file);
     let boxed: NonZeroInxBoxedSlice<Slot> = NonZeroInxBoxedSlice::with_min_capacity(
         alloc, 3,
     ).expect(rt, "memory");
-    is_file(rt, arena_again(boxed, alloc, is_strict), &ARENA);
+    is_file(rt, arena_again(boxed, alloc, is_strict), file);
     let array: NonZeroInxArray<Slot, 3> = NonZeroInxArray::new(alloc);
-    is_file(rt, arena_again(array, alloc, is_strict), &ARENA);
+    is_file(rt, arena_again(array, alloc, is_strict), file);
 }
 
 #[test]
@@ -108,27 +96,27 @@ fn a_strict_arena_is_loaded_over_each_stack(rt: HostRuntime) {
 fn a_direct_arena_is_loaded_over_each_stack(rt: HostRuntime) {
     let alloc = rt.alloc();
     let on_heap: NonZeroInxVec<Direct> = NonZeroInxVec::new(alloc);
-    is_file(&rt, direct_arena_again(on_heap, alloc), &DIRECT);
+    is_file(&rt, direct_arena_again(on_heap, alloc), DIRECT);
     let limited: NonZeroInxLimitedVec<Direct> = NonZeroInxLimitedVec::with_min_capacity(
         alloc, 3,
     ).expect(&rt, "memory");
-    is_file(&rt, direct_arena_again(limited, alloc), &DIRECT);
+    is_file(&rt, direct_arena_again(limited, alloc), DIRECT);
     let boxed: NonZeroInxBoxedSlice<Direct> = NonZeroInxBoxedSlice::with_min_capacity(
         alloc, 3,
     ).expect(&rt, "memory");
-    is_file(&rt, direct_arena_again(boxed, alloc), &DIRECT);
+    is_file(&rt, direct_arena_again(boxed, alloc), DIRECT);
     let array: NonZeroInxArray<Direct, 3> = NonZeroInxArray::new(alloc);
-    is_file(&rt, direct_arena_again(array, alloc), &DIRECT);
+    is_file(&rt, direct_arena_again(array, alloc), DIRECT);
 }
 
 #[test]
 fn what_does_not_fit_is_refused(rt: HostRuntime) {
     let alloc = rt.alloc();
-    let wanted = Some(LoadError::Malformed(Fault::Slots, 26));
+    let wanted = Some(LoadError::Malformed(Fault::Slots, 36));
     let short: NonZeroInxArray<Slot, 2> = NonZeroInxArray::new(alloc);
-    let refusal = load_arena(short, alloc, &mut ARENA.as_slice()).err();
+    let refusal = load_arena(short, alloc, &mut &*ARENA).err();
     is(refusal, wanted).expect(&rt, "an array of two places");
     let short: NonZeroInxArray<Direct, 2> = NonZeroInxArray::new(alloc);
-    let refusal = load_direct_arena(short, alloc, &mut DIRECT.as_slice()).err();
+    let refusal = load_direct_arena(short, alloc, &mut &*DIRECT).err();
     is(refusal, wanted).expect(&rt, "an array of two places");
 }

@@ -25,7 +25,7 @@ fn set_points_are_loaded_over_an_array(rt: HostRuntime) {
     }
     let file = to_file_bytes(&edited, alloc).expect(&rt, "memory");
     let refusal = load_set_points(alloc, &mut file.as_slice()).err();
-    is(refusal, Some(LoadError::Malformed(Fault::Slots, 26))).expect(
+    is(refusal, Some(LoadError::Malformed(Fault::Slots, 36))).expect(
         &rt,
         "more than there are places",
     );

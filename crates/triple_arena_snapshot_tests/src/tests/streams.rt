@@ -12,6 +12,9 @@ use triple_arena_test_kit::is;
 
 type Value = (u32, Option<P0>);
 
+/// How often in a row a read or a write is interrupted.
+const OFTEN: usize = 1_000;
+
 /// The value of the worked example.
 fn value() -> Value {
     match (NonZeroUsize::new(2), NonZeroU64::new(3)) {
@@ -38,7 +41,7 @@ fn each_read_may_fail(rt: HostRuntime) {
         let mut reader = Dripping::new(&FILE, reads_before, ErrorKind::OutOfMemory, 1);
         let refusal = load::<Value, Dripping>(alloc, &mut reader).err();
         is(refusal, Some(LoadError::Memory)).expect(&rt, "a reader without memory");
-        let mut reader = Dripping::new(&FILE, reads_before, ErrorKind::Interrupted, 3);
+        let mut reader = Dripping::new(&FILE, reads_before, ErrorKind::Interrupted, OFTEN);
         let read: Value = load(alloc, &mut reader).expect(&rt, "the file");
         is(read, value()).expect(&rt, "the value, where reads were interrupted");
     }
@@ -56,7 +59,7 @@ fn each_write_may_fail(rt: HostRuntime) {
             is(writer.bytes.as_slice() == front, true).expect(&rt, "a front of the file");
         }
         let interrupted = Some(ErrorKind::Interrupted);
-        let mut writer = Trickling::new(Vec::new(alloc), writes_before, interrupted, 3);
+        let mut writer = Trickling::new(Vec::new(alloc), writes_before, interrupted, OFTEN);
         save(&value(), alloc, &mut writer).expect(&rt, "writes that were interrupted");
         is(writer.bytes.as_slice() == FILE.as_slice(), true).expect(&rt, "the file");
     }

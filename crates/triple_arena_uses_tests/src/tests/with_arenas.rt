@@ -9,6 +9,7 @@ mod graph;
 mod guest_book;
 mod holders;
 mod into_values;
+mod labels;
 mod leases;
 mod links;
 mod netlist;

@@ -3,12 +3,14 @@
 use crate::tests::arenas::{Numbers, has_text, numbers};
 use crate::tests::direct_calls::is_placed;
 use std::num::NonZeroU64;
-use triple_arena::{Arena, ArenaCloneFromWith, ArenaDirectInsertTrait, ArenaTrait};
-use triple_arena_base::CloneFromError;
+use triple_arena::{
+    Arena, ArenaCloneFromWith, ArenaDirectInsertTrait, ArenaInsertTrait, ArenaSlot, ArenaTrait,
+};
+use triple_arena_base::{CloneFromError, ReallocationError};
 use triple_arena_direct_arena::DirectArena;
 use triple_arena_ptr::{P0, Ptr, Q2};
-use triple_arena_stack::NonZeroInxGenericStack;
-use triple_arena_test_kit::{Narrow, is, is_shown, pointer};
+use triple_arena_stack::{NonZeroInxGenericStack, NonZeroInxLimitedVec};
+use triple_arena_test_kit::{Narrow, Numbered, is, is_shown, pointer};
 
 #[test]
 fn arenas_cloned_into_each_other_keep_their_room(rt: HostRuntime) {
@@ -108,6 +110,43 @@ fn a_mirror_of_texts_keeps_the_pointers(rt: HostRuntime) {
     is(mirror.can_direct_insert(pointer(1, 1)), true).expect(&rt, "whether there is a place");
 }
 
+// A new arena over its stack has no place.
+#[test]
+fn an_arena_under_a_limit_has_no_clone(rt: HostRuntime) {
+    let mut arena: Arena<P0, u64, NonZeroInxLimitedVec<ArenaSlot<P0, u64>>> =
+        Arena::with_min_capacity(rt.alloc(), 1).expect(&rt, "memory");
+    let p = arena.insert(7).expect(&rt, "a place");
+    let beyond = CloneFromError::Reallocation(ReallocationError::BeyondMaxCapacity);
+    is(arena.clone(rt.alloc()).err(), Some(beyond)).expect(&rt, "the refusal");
+    is(arena.get(p).copied(), Some(7)).expect(&rt, "the value");
+}
+
+// Has the numbers go over to an arena, under the generation 7.
+fn transfer<P: Ptr>(
+    target: &mut Arena<P, u64>,
+    source: &mut Numbers,
+) -> Result<(), ReallocationError>
+where
+    P::Gen: Numbered,
+{
+    let seven = pointer::<P>(1, 7).generation();
+    target.transfer_reallocating(seven, source, |_old, taken, _new| taken.allow())
+}
+
+// Of 256 numbers and then of 255, to an arena with so many indexes.
+#[test]
+fn a_transfer_past_the_greatest_index_is_refused(rt: HostRuntime) {
+    let mut source = numbers(&rt, rt.alloc(), 256, &[]);
+    let mut target: Arena<Narrow, u64> = Arena::on_heap(rt.alloc());
+    let refused = transfer(&mut target, &mut source);
+    is(refused, Err(ReallocationError::AllocError)).expect(&rt, "the refusal");
+    is([source.len(), target.len()], [256, 0]).expect(&rt, "the lengths");
+    drop(source.remove(pointer(1, 2)));
+    is(transfer(&mut target, &mut source), Ok(())).expect(&rt, "what fits");
+    is([source.len(), target.len()], [0, 255]).expect(&rt, "the lengths then");
+    is(target.get(pointer(255, 7)).copied(), Some(256)).expect(&rt, "the last number");
+}
+
 // The last two of three numbers go over to an arena of other pointers, and then two that are inserted
 // into the source to a direct one.
 #[test]
@@ -115,10 +154,7 @@ fn a_transfer_renumbers_and_empties_its_source(rt: HostRuntime) {
     let alloc = rt.alloc();
     let mut source = numbers(&rt, alloc, 3, &[1]);
     let mut target: Arena<Q2, u64> = Arena::on_heap(alloc);
-    let seven = pointer::<Q2>(1, 7).generation();
-    target
-        .transfer_reallocating(seven, &mut source, |_old, taken, _new| taken.allow())
-        .expect(&rt, "memory");
+    transfer(&mut target, &mut source).expect(&rt, "memory");
     has_text(alloc, &target, "{Q2[1](7): 2, Q2[2](7): 3}").expect(&rt, "the target");
     is(target.capacity(), 2).expect(&rt, "the capacity");
     is(source.is_empty(), true).expect(&rt, "whether the source has no entry");

@@ -13,6 +13,7 @@ use triple_arena::{
     Arena, ArenaCloneFromWith, ArenaDirectInsertTrait, ArenaInsertTrait, ArenaSlot, ArenaTrait,
     CompactArenaTrait,
 };
+use triple_arena_direct::{StrictArena, retain};
 use triple_arena_direct_arena::{DirectArena, DirectSlot};
 use triple_arena_ptr::{P0, Ptr, PtrGen};
 use triple_arena_stack::{
@@ -287,4 +288,47 @@ fn a_value_that_is_copied_is_dropped_once(rt: HostRuntime) {
         .expect(&rt, "memory");
     is(live.get(), 3).expect(&rt, "the count");
     each_clone(&rt, alloc, &direct, &mut other, &live);
+}
+
+#[test]
+fn a_value_that_is_not_retained_is_dropped_once(rt: HostRuntime) {
+    let (alloc, live) = (rt.alloc(), no_values(&rt, rt.alloc()));
+    let mut arena: Arena<P0, Value> = Arena::on_heap(alloc);
+    for _ in 0..3 {
+        arena.insert(new_value(&live)).expect(&rt, "memory");
+    }
+    let told = retain(&mut arena, |p, _value| p == pointer(2, 2));
+    is(told.is_success(), true).expect(&rt, "whether no counter wrapped");
+    is([arena.len() as u64, live.get()], [1, 1]).expect(&rt, "the length and the count");
+}
+
+type Strict = StrictArena<P0, Value>;
+
+// Takes one value out by a drain, which is let go then: whether that one wasn't dropped before.
+fn takes_one_strictly(arena: &mut Strict, live: &Live) -> bool {
+    let before = live.get();
+    match arena.drain() {
+        Ok(mut drain) => {
+            let taken = drain.next();
+            let is_held = taken.is_some() && live.get() == before;
+            drop(taken);
+            is_held && live.get() == before.wrapping_sub(1)
+        }
+        Err(_refusal) => false,
+    }
+}
+
+#[test]
+fn each_value_of_a_strict_arena_is_dropped_once(rt: HostRuntime) {
+    let (alloc, live) = (rt.alloc(), no_values(&rt, rt.alloc()));
+    let mut arena: Strict = StrictArena::new(alloc);
+    for _ in 0..4 {
+        arena.insert(new_value(&live)).expect(&rt, "memory");
+    }
+    let told = arena.retain(|p, _value| p != pointer(2, 2));
+    is(told, Ok(())).expect(&rt, "what is retained");
+    is(live.get(), 3).expect(&rt, "the count");
+    let is_held = takes_one_strictly(&mut arena, &live);
+    is(is_held, true).expect(&rt, "whether what is held stays");
+    is(live.get(), 0).expect(&rt, "the count");
 }

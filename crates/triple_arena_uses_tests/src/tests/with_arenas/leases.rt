@@ -95,6 +95,18 @@ fn all_leases_of_a_holder_are_revoked(rt: HostRuntime) {
     is(leases.redeem(third).copied(), None).expect(&rt, "the third lease");
 }
 
+// Nor are those of a holder who has none, where there is a lease.
+#[test]
+fn at_the_counters_end_all_leases_stay(rt: HostRuntime) {
+    let mut leases = Leases::new(rt.alloc());
+    first_of_all(&rt, &mut leases);
+    is(leases.revoke_all(1), Ok(())).expect(&rt, "the end of no leases");
+    let last = leases.issue(lease(254)).expect(&rt, "memory");
+    let refusals = [leases.revoke_all(1), leases.revoke_all(2)];
+    is(refusals, [Err(StrictError::Exhausted); 2]).expect(&rt, "the refusals");
+    is(leases.redeem(last).copied(), Some(lease(254))).expect(&rt, "the lease");
+}
+
 // The registry comes back, and the lease that is there is found by its ticket, which was kept.
 #[test]
 fn a_stray_ticket_refuses_a_renewal(rt: HostRuntime) {

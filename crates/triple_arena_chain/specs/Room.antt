@@ -12,7 +12,7 @@ use Rattle.triple_arena_chain.specs.declared.place.ChainError.TheVariants.{NoRoo
 use Rattle.triple_arena_chain.specs.Chains.{ChainState, nodes, IsRefusedRoom}
 
 module _ {A T : Type 0} where
-  -- no pointer finds anything; there is this capacity and this limit
+  -- no pointer finds anything, and there are no entries; there is this capacity and this limit
   pub record AreEmpty (capacity_is : ℕ) (limit_is : Option ℕ) (chains : ChainState A T) : Type 0 where
     pub none : (q : Pointer) → nodes chains q ≡ None
     pub len : chains.len ≡ 0
@@ -24,7 +24,7 @@ module _ {A T : Type 0} where
     pub capacity : new.capacity ≡ old.capacity
     pub limit : new.limit ≡ old.limit
 
-  -- every pointer finds what it found, and as many entries are allowed
+  -- every pointer finds what it found, there are as many entries, and as many are allowed
   pub record KeepsNodes (old new : ChainState A T) : Type 0 where
     pub found : (q : Pointer) → nodes new q ≡ nodes old q
     pub len : new.len ≡ old.len
@@ -51,8 +51,8 @@ module _ {A T : Type 0} where
   abbrev pub all_values : ChainState A T → List (Pointer × T)
   all_values s = map (λ e. (e.0, e.1.value)) (entries s.slots)
 
--- room for so many is refused for want of room exactly where it could be had but for the limit, else for want of memory or
--- indexes; and neither where the room stays, nor where memory is there
+-- room for so many is refused for want of room exactly where there are so many indexes and the limit is below, else for want
+-- of memory or indexes; and within both neither where the room stays, nor where memory is there
 pub record DependsOnLimit {X : Type 0} (greatest min_capacity : ℕ) (limit : Option ℕ) (keeps_room gets_room : Type 0) (result : Result X ChainError) : Type 0 where
   pub refusal : IfErr result IsRefusedRoom
   pub within : OnOk result ((min_capacity ≤ greatest) × IsWithin limit min_capacity)

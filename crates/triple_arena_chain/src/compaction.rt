@@ -26,8 +26,8 @@ impl<P: Ptr, T, A: CompactArenaTrait<P, Link<P, T>> + ArenaInsertTrait<P, Link<P
     /// every chain has the values that it had, in its order, and no index is above the number of
     /// entries (`KeepsChains`). The map tells the new pointer of each entry, which the arena gives, and
     /// the answer tells a wrap exactly where the compression wraps the arena's counter (`TellsMap`).
-    /// Generations don't begin anew: where the counter doesn't wrap, no pointer that was given before
-    /// finds anything (`history`).
+    /// Generations don't begin anew: where they count, and the counter doesn't wrap, no pointer that was
+    /// given before finds anything (`history`).
     ///
     /// `NoMemory`, and only where there is an entry and memory for the map is refused; then nothing
     /// changes. It isn't refused for a pointer that leads nowhere: in chains there is none.

@@ -26,7 +26,7 @@ impl<P: Ptr, T, A: CompactArenaTrait<P, Link<P, T>> + ArenaInsertTrait<P, Link<P
     A,
 > {
     /// Takes out every entry of a pointer's chain, open or a ring, and gives how many those were.
-    /// `GenerationOverflow` exactly where one of these removals wraps the arena's counter (`wrap`).
+    /// `GenerationOverflow` exactly where one of these removals wraps the arena's counter (`ended`).
     ///
     /// `NoEntry` exactly where the pointer finds nothing; then nothing changes.
     pub fn remove_chain(&mut self, p: P) -> Result<InvalidationOption<usize>, ChainError>
@@ -62,8 +62,8 @@ impl<P: Ptr, T, A: CompactArenaTrait<P, Link<P, T>> + ArenaInsertTrait<P, Link<P
         Ok(telling(wrapped, all - self.len()))
     }
 
-    /// Takes out every entry, of all chains. `GenerationOverflow` exactly where clearing the arena wraps
-    /// its counter (`answer`).
+    /// Takes out every entry, of all chains; values are dropped, capacity and limit stay.
+    /// `GenerationOverflow` exactly where clearing the arena wraps its counter (`answer`).
     pub fn clear(&mut self) -> InvalidationOption<()>
     where
         T: Drop,

@@ -35,8 +35,8 @@ impl<P: Ptr, T, A: CompactArenaTrait<P, Link<P, T>> + ArenaInsertTrait<P, Link<P
     /// use, as the arena's own call does (`done`): every pointer finds what it found.
     ///
     /// `NoRoom` exactly where the limit is below `min_capacity`, and there are so many indexes; else
-    /// `NoMemory` where there are not, or memory is refused. Where the room stays the same, no memory is
-    /// taken.
+    /// `NoMemory` where there are not, or memory is refused. Then the capacity stays, and free slots at the
+    /// end may be gone. Where the room stays the same, no memory is taken.
     pub fn reallocate_min_capacity(&mut self, min_capacity: usize) -> Result<(), ChainError>
         // Done: there is room for so many.
         ensures done { OnOk result

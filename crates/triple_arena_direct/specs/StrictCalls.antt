@@ -87,13 +87,14 @@ module _ {T : Type 0} (kind : StackKind) (generations : Generations) where
       (m : ArenaState T) × (first second : List ModelCall)
       × IsStrictStep s call first m × AreStrictSteps m rest second t × (calls ≡ first ++ second)
 
-  -- one call, done or refused, as a step: a history goes on by its model calls, and what was gone for good stays so
+  -- one call, done or refused, as a step: a history goes on by its model calls, and where generations count, what was gone for
+  -- good stays so
   pub record IsStrictCall (old : ArenaState T) (call : StrictCall T) (calls : List ModelCall) (new : ArenaState T) : Type 0 where
     pub step : IsStrictStep old call calls new
     pub history : Continues Fits old calls new
     pub stays_gone : generations.counting ≡ true → (q : Pointer) → IsGoneForGood old q → IsGoneForGood new q
 
-  -- so where it may end entries, and so raise the counter: a history goes on where generations count
+  -- so where it may end entries, and so raise the counter: the history, too, goes on where generations count
   pub record IsStrictEnding (old : ArenaState T) (call : StrictCall T) (calls : List ModelCall) (new : ArenaState T) : Type 0 where
     pub step : IsStrictStep old call calls new
     pub history : generations.counting ≡ true → Continues Fits old calls new

@@ -19,7 +19,7 @@ use Rattle.triple_arena_direct.specs.StrictRetain.{emptied}
 
 module _ {T : Type 0} (old : ArenaState T) where
   -- the value stands under the next pointer, which is none that was gone for good, and at whose index no entry stood. It was
-  -- put into an arena with a place: the old one, once it has grown if it was full
+  -- put into this arena, which has a place
   pub record IsStrictlyInserted (into : ArenaState T) (value : T) (p : Pointer) (after : ArenaState T) : Type 0 where
     pub pointer : p ≡ next_pointer old
     pub free : entry old p.0 ≡ None

@@ -22,7 +22,7 @@ use triple_arena_stack::NonZeroInxGenericStack;
 /// no other line, as `StrictSession::run` says. It shows what the store became, where the writer failed by
 /// the first lines. This is said of readers and writers that tell their bytes. Whatever they tell, the session
 /// is sound after the run, however it ended (`sound` of `stays`): so one text may follow another. The pointers
-/// of the entries begin a history (`begun`), as `StrictSession::step` says.
+/// of the entries begin a history (`begun` of `stays`), as `StrictSession::step` says.
 pub fn run_text_strict<
     P: Ptr,
     S: NonZeroInxGenericStack<ArenaSlot<P, Node<u64, P>>>,

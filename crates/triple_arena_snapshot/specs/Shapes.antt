@@ -1,5 +1,4 @@
--- Shapes: bytes that tell a type. The first one is the type's own, and behind it stand the shapes of its parts, so that no
--- shape begins another.
+-- Shapes: bytes that tell a type. The first one is the type's own, and behind it stand the shapes of its parts.
 use Rattle.std.specs.Prelude.{ℕ, ◌-◌, ◌==◌, if◌then◌else◌, List, [], ◌∷◌, ◌++◌, length, Result, Ok, Err}
 use Rattle.std.specs.Int.{w64, to_le_bytes}
 use Rattle.triple_arena_snapshot.specs.declared.fault.Fault.TheVariants.{Shape}

@@ -263,7 +263,8 @@ const TABLE: [u32; 256] = [
     0xad7d_5351,
 ];
 
-/// The checksum of bytes, CRC-32C, which stands at the end of each file.
+/// The checksum of bytes, CRC-32C, which stands at the end of each file, the lowest byte first. Of no bytes
+/// it is 0, of `123456789` 0xe3069283.
 pub fn crc32c(bytes: &[u8]) -> u32
     ensures { result ≡ crc32c bytes.now }
 {

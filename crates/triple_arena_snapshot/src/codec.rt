@@ -15,7 +15,8 @@ use triple_arena_base::AllocError;
 /// its content leaves out doesn't come back.
 ///
 /// A file tells of which type its value is by the `shape`: a byte of the type's own, which is 128 or more
-/// of types that this crate doesn't have, and behind it the shapes of the types of which it is made.
+/// of types that this crate doesn't have, and behind it the shapes of the types of which it is made. Its
+/// `asks` says whether reading a value asks for memory.
 pub trait Codec {
     // what is written of a value, and of what type that is
     ghost Content: { Type 0 };
@@ -42,7 +43,8 @@ pub trait Codec {
             (out.new.items ≡ out.old.items ++ coding.encoding (content self.now)) }
         ensures fits { OnOk result (coding.fits (content self.now)) };
 
-    /// The value at the front of the bytes, and the bytes behind it; or the first fault.
+    /// The value at the front of the bytes, and the bytes behind it; or the first fault, by how many bytes
+    /// are left where it is; or `Memory`, which a type whose `asks` is false never answers.
     fn decode(alloc: Global, bytes: &[u8]) -> Result<(Self, &[u8]), DecodeError>
         ensures read { Gives (λ x. (content x.0, x.1.now)) result (coding.decoding bytes.now) }
         ensures memory { IfErr result (λ e. MayFail asks e) };
@@ -58,7 +60,8 @@ pub fn to_bytes<T: Codec>(value: &T, alloc: Global) -> Result<Vec<u8>, AllocErro
     Ok(out)
 }
 
-/// The value whose bytes these are, all of them; or the first fault.
+/// The value whose bytes these are, all of them; or the first fault, by how many bytes are left where it
+/// is; or `Memory`, which a type whose `asks` is false never answers.
 pub fn from_bytes<T: Codec + Drop>(alloc: Global, bytes: &[u8]) -> Result<T, DecodeError>
     ensures read { Gives T.content result (whole T.coding.decoding bytes.now) }
     // What was written is read again, unless memory is refused.

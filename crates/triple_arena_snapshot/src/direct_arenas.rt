@@ -90,7 +90,7 @@ where
 }
 
 /// The direct arena at the front of the bytes, over a stack that has no item, and the bytes behind
-/// it; or the first fault. Room is made slot by slot, each from bytes that are there.
+/// it; or the first fault; then the stack is gone. Room is made slot by slot, each from bytes that are there.
 pub fn decode_direct_arena<
     P: Ptr,
     T: Codec + Drop,

@@ -22,10 +22,10 @@ pub enum Fault {
     /// A text isn't UTF-8.
     #[error("a text is not UTF-8")]
     Text,
-    /// A float's bits are of a NaN, and not those by which a NaN is written.
+    /// A float's bits are of a NaN, and not those by which a NaN is written; told at the float's first byte.
     #[error("the bits of a float are another pattern of a NaN than the one that is written")]
     Nan,
-    /// A key of a map isn't above the one in front of it.
+    /// A key of a map isn't above the one in front of it; told where the key begins.
     #[error("a key of a map is not above the one in front of it")]
     Order,
     /// An arena's pointers are of another width.
@@ -49,7 +49,8 @@ pub enum Fault {
     /// The file is of another version of the format.
     #[error("the file is of another version")]
     Version,
-    /// The file is one of values of another type.
+    /// The file is one of values of another shape; told at the first byte of the shape that differs, or at
+    /// its count, if that does.
     #[error("the file is of values of another type")]
     Shape,
     /// The checksum isn't that of what stands before it.

@@ -27,7 +27,8 @@ pub fn to_file_bytes<T: Codec>(value: &T, alloc: Global) -> Result<Vec<u8>, Allo
     Ok(out)
 }
 
-/// The value whose file these bytes are, all of them.
+/// The value whose file these bytes are, all of them; or the first fault, by its offset in the file, or
+/// `Memory`; never `Read`.
 pub fn from_file_bytes<T: Codec + Drop>(alloc: Global, bytes: &[u8]) -> Result<T, LoadError>
     ensures read { Loads T.content result
         (file_reading T.shape T.coding.decoding bytes.now) }

@@ -31,12 +31,14 @@ pub trait KeyCodec: Codec + Ord {
 
     ghost order: { Key → Key → Ordering };
 
-    /// As `encode`.
+    /// Writes the key, by `keyed`, at the end of `out`, as `encode` does. Where memory is refused, nothing is
+    /// said of what stands there.
     fn encode_key(&self, out: &mut Vec<u8>) -> Result<(), AllocError>
         ensures written { OnOk result (out.new.items ≡ out.old.items ++ keyed.encoding (key self.now)) }
         ensures fits { OnOk result (keyed.fits (key self.now)) };
 
-    /// As `decode`.
+    /// The key at the front of the bytes, by `keyed`, as `decode` reads it, and the bytes behind it; or the
+    /// first fault, or `Memory`.
     fn decode_key(alloc: Global, bytes: &[u8]) -> Result<(Self, &[u8]), DecodeError>
         ensures read { Gives (λ x. (key x.0, x.1.now)) result (keyed.decoding bytes.now) };
 

@@ -10,7 +10,8 @@ use crate::fault::{DecodeError, Fault};
 use std::alloc::Global;
 use triple_arena_base::AllocError;
 
-/// The byte at a place of a shape that is a tag alone.
+/// The byte at a place, from 0 on, of a shape that is a tag alone, which of a type of yours is 128 or more;
+/// or how far past the shape's end the place is.
 pub fn shape_alone(tag: u8, at: usize) -> Result<u8, usize>
     ensures { result ≡ byte_at (tag ∷ []) at }
 {
@@ -20,7 +21,7 @@ pub fn shape_alone(tag: u8, at: usize) -> Result<u8, usize>
     Err(at - 1)
 }
 
-/// The byte at a place of a shape that is a tag and the shape of a type.
+/// So of a shape that is a tag, and behind it the shape of a type.
 pub fn shape_over<T: Codec>(tag: u8, at: usize) -> Result<u8, usize>
     ensures { result ≡ byte_at (tag ∷ T.shape) at }
 {
@@ -30,7 +31,7 @@ pub fn shape_over<T: Codec>(tag: u8, at: usize) -> Result<u8, usize>
     T::shape_at(at - 1)
 }
 
-/// The byte at a place of a shape that is a tag and the shapes of two types.
+/// So of a shape that is a tag, and behind it the shapes of two types.
 pub fn shape_over_both<A: Codec, B: Codec>(tag: u8, at: usize) -> Result<u8, usize>
     ensures { result ≡ byte_at (tag ∷ A.shape ++ B.shape) at }
 {

@@ -111,7 +111,8 @@ where
 /// came back, made strict again. Where the stack has another limit than that of the arena that was saved,
 /// [`crate::laws::fits_under_another_limit`] tells what fits.
 ///
-/// Refused as [`crate::load_arena`]; and then with `Counter`, at the offset of the value's first byte,
+/// Refused as [`crate::load_arena`], with `Shape` where [`crate::save_arena`] wrote the file: load that
+/// there, and pass it to [`into_strict`]. And then with `Counter`, at the offset of the value's first byte,
 /// where generations count and an entry is of one past the counter.
 pub fn load_strict_arena<
     P: Ptr,

@@ -32,7 +32,7 @@ module _ {A B K V : Type 0} where
   abbrev pub ValsAreFull : SurjectState A B K V → Type 0
   ValsAreFull s = IsFullAtLimit s.val_capacity s.val_limit s.len_vals
 
-  -- no pointer finds anything; there are these capacities and these limits
+  -- no pointer finds anything, and there are no keys and no sets; there are these capacities and these limits
   pub record AreNoSets (for_keys : ℕ) (most_keys : Option ℕ) (for_vals : ℕ) (most_vals : Option ℕ) (s : SurjectState A B K V) : Type 0 where
     pub none : (q : Pointer) → found_at s q ≡ None
     pub len_keys : s.len_keys ≡ 0

@@ -24,9 +24,10 @@ impl<
     B: ArenaInsertTrait<P, Shared<V>>,
 > SurjectArena<P, K, V, A, B> {
     /// Compresses the arena of keys: each key has a new pointer in the set that it was in, the entries keep their
-    /// order, and no index is above the number of keys (`KeepsSets`). Values stay where they are. The map tells the new pointers, and the answer a wrap
-    /// exactly where the compression wraps the counter of that arena (`TellsMap`). Generations don't begin anew: where
-    /// the counter doesn't wrap, no pointer that was given before finds anything (`history`).
+    /// order, and no index is above the number of keys (`KeepsSets`). Values stay where they are. The map tells the
+    /// new pointers, and the answer a wrap exactly where the compression wraps the counter of that arena (`TellsMap`).
+    /// Generations don't begin anew: where they count, and the counter doesn't wrap, no pointer that was given before
+    /// finds anything (`history`).
     ///
     /// `NoMemory`, and only where there is a key and memory for the map is refused; then nothing changes.
     pub fn compress(

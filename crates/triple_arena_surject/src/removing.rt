@@ -98,8 +98,9 @@ impl<
         Ok(telling(wrapped, out.value))
     }
 
-    /// Takes out every key and every set; keys and values are dropped. `GenerationOverflow` exactly where clearing
-    /// the arena of keys wraps its counter (`answer`). A wrap in the arena of values isn't told.
+    /// Takes out every key and every set; keys and values are dropped, and the room of both stays.
+    /// `GenerationOverflow` exactly where clearing the arena of keys wraps its counter (`answer`). A wrap in the arena
+    /// of values isn't told.
     pub fn clear(&mut self) -> InvalidationOption<()>
     where
         K: Drop,

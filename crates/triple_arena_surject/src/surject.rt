@@ -150,7 +150,7 @@ impl<
         self.keys.len()
     }
 
-    /// Whether there is no key, and so no set.
+    /// Whether there is no key.
     pub fn is_empty(&self) -> bool
         ensures { result ≡ (self.now.len_keys == 0) }
     {

@@ -27,7 +27,7 @@ pub trait Entering<P: Ptr, T>: Sized {
 
     /// As [`into_strict`].
     fn close(self) -> Result<Self::Strict, Self>
-        // Done: inside is the arena as it is, with no entry past its counter. Where generations count, a
+        // Done: inside is the arena as it is. Where generations count, no entry is past its counter, and a
         // history can begin.
         ensures made { IfOk result (λ strict. state strict ≡ inside self) }
         ensures allowed { OnOk result ((P.Gen.generations.counting
@@ -63,8 +63,8 @@ impl<P: Ptr, T, S: NonZeroInxGenericStack<ArenaSlot<P, T>>> Entering<P, T> for A
 /// Refused exactly where generations count and an entry is of one past the counter, as after the counter
 /// wrapped or was set back; then the arena comes back as it was.
 pub fn into_strict<P: Ptr, T, A: Entering<P, T>>(arena: A) -> Result<A::Strict, A>
-    // Done: inside is the arena as it is, with no entry past its counter. Where generations count, a history
-    // can begin.
+    // Done: inside is the arena as it is. Where generations count, no entry is past its counter, and a
+    // history can begin.
     ensures made { IfOk result (λ strict. A.state strict ≡ A.inside arena) }
     ensures allowed { OnOk result ((P.Gen.generations.counting
         && is_any_past (A.inside arena).counter (A.inside arena).slots) ≡ false) }

@@ -112,8 +112,8 @@ impl<P: Ptr, T, S: NonZeroInxGenericStack<ArenaSlot<P, T>>> StrictArena<P, T, S>
         Ok(StrictInsertEntry { arena: self })
     }
 
-    /// A place for one more value; a full arena grows first. No entry moves (`kept`), and the place has the
-    /// pointer that was the next one before (`next`).
+    /// A place for one more value; a full arena grows first. No entry moves, and the place has the pointer
+    /// that was the next one before (`done`).
     ///
     /// Refused as [`Self::insert_reallocating`] is; then the arena is unchanged.
     pub fn entry_insert_reallocating(

@@ -221,14 +221,21 @@ module _ {T : Type 0} where
   abbrev pub with_before : Option Pointer → Node T → Node T
   with_before p node = record node { before = p }
 
-module _ {A P T : Type 0} (slots : A → List (Option (ℕ × Link P T))) (put : A → ℕ → Link P T → A) where
-  -- an arena with another value in the link that stands at an index, if one does
-  abbrev pub put_value_in : A → ℕ → T → Option (ℕ × Link P T) → A
-  put_value_in arena i value None = arena
-  put_value_in arena i value (Some e) = put arena i (record e.1 { value = value })
+-- an arena with another value in what stands at an index, if something does
+module _ {A X T : Type 0} (slots : A → List (Option (ℕ × X))) (put : A → ℕ → X → A) (with_new : T → X → X) where
+  abbrev pub put_within_entry : A → ℕ → T → Option (ℕ × X) → A
+  put_within_entry arena i value None = arena
+  put_within_entry arena i value (Some e) = put arena i (with_new value e.1)
 
-  abbrev pub put_value : A → ℕ → T → A
-  put_value arena i value = put_value_in arena i value (entry_in (slots arena) i)
+  abbrev pub put_within : A → ℕ → T → A
+  put_within arena i value = put_within_entry arena i value (entry_in (slots arena) i)
+
+-- a link with another value, and an arena with one in the link that stands at an index, if one does
+abbrev pub with_link_value : {P T : Type 0} → T → Link P T → Link P T
+with_link_value value link = record link { value = value }
+
+abbrev pub put_value : {A P T : Type 0} → (slots : A → List (Option (ℕ × Link P T))) (put : A → ℕ → Link P T → A) → A → ℕ → T → A
+put_value slots put = put_within slots put with_link_value
 
 -- the pointer that a place is at
 abbrev pub place_at : {P : Type 0} → (P → Pointer) → Place P → Pointer

@@ -11,7 +11,40 @@ use Rattle.triple_arena_chain.specs.declared.place.ChainError.{ChainError}
 use Rattle.triple_arena_chain.specs.declared.place.ChainError.TheVariants.{NoRoom}
 use Rattle.triple_arena_chain.specs.Chains.{ChainState, nodes, IsRefusedRoom}
 
+-- how full an arena is: how many entries there are, how many fit without growth, and how many are allowed, if there is a limit
+pub record Fill : Type 0 where
+  pub len : ℕ
+  pub capacity : ℕ
+  pub limit : Option ℕ
+
+-- an arena has taken one entry more, and has as much room or more: a full one has grown as its own insertions have it grow, and
+-- where a place was, the capacity stays
+pub record TakesOneMore {A : Type 0} (capacity_of : A → ℕ) (grown_from : A → A) (arena : A) (old new : Fill) : Type 0 where
+  pub len : new.len ≡ old.len + 1
+  pub capacity : old.capacity ≤ new.capacity
+  pub limit : new.limit ≡ old.limit
+  pub grown : new.capacity ≡ capacity_of (grown_from arena)
+  pub had_place : old.len < old.capacity → new.capacity ≡ old.capacity
+
+-- one entry more has an index: an arena that is full is below the greatest one
+abbrev pub HasIndex : (greatest : ℕ) → Fill → Type 0
+HasIndex greatest old = old.len ≡ old.capacity → old.capacity < greatest
+
+-- one entry more is refused by such refusals alone: by the one for want of room exactly where the arena is full at its limit,
+-- else for want of memory or of an index. It isn't refused where memory is there, nor where a place is, and it is where there is
+-- no greater index
+pub record DependsOnFill {X E : Type 0} (refuses : E → Type 0) (for_room : E) (has_memory : ℕ → Type 0) (greatest : ℕ) (old : Fill) (result : Result X E) : Type 0 where
+  pub refusal : IfErr result refuses
+  pub no_room : (result ≡ Err for_room) ↔ IsFullAtLimit old.capacity old.limit old.len
+  pub with_memory : CanGrow has_memory old.capacity old.limit greatest → IsOk result
+  pub indexed : OnOk result (HasIndex greatest old)
+  pub had_place : old.len < old.capacity → IsOk result
+
 module _ {A T : Type 0} where
+  -- how full the arena of chains is
+  abbrev pub fill : ChainState A T → Fill
+  fill s = record { len = s.len; capacity = s.capacity; limit = s.limit }
+
   -- no pointer finds anything, and there are no entries; there is this capacity and this limit
   pub record AreEmpty (capacity_is : ℕ) (limit_is : Option ℕ) (chains : ChainState A T) : Type 0 where
     pub none : (q : Pointer) → nodes chains q ≡ None
@@ -30,22 +63,13 @@ module _ {A T : Type 0} where
     pub len : new.len ≡ old.len
     pub limit : new.limit ≡ old.limit
 
-  -- there is one entry more, and as much room or more: a full arena has grown as its own insertions have it grow, and where a
-  -- place was, the capacity stays
-  pub record HasOneMore (capacity_of : A → ℕ) (grown_from : A → A) (old new : ChainState A T) : Type 0 where
-    pub len : new.len ≡ old.len + 1
-    pub capacity : old.capacity ≤ new.capacity
-    pub limit : new.limit ≡ old.limit
-    pub grown : new.capacity ≡ capacity_of (grown_from old.arena)
-    pub had_place : old.len < old.capacity → new.capacity ≡ old.capacity
+  -- there is one entry more, and as much room as their arena has then
+  abbrev pub HasOneMore : (capacity_of : A → ℕ) (grown_from : A → A) (old new : ChainState A T) → Type 0
+  HasOneMore capacity_of grown_from old new = TakesOneMore capacity_of grown_from old.arena (fill old) (fill new)
 
-  -- an insertion is refused for want of room exactly where the arena is full at its limit, else for want of memory; and neither
-  -- where memory is there, nor where a place is
-  pub record DependsOnRoom {X : Type 0} (has_memory : ℕ → Type 0) (greatest : ℕ) (old : ChainState A T) (result : Result X ChainError) : Type 0 where
-    pub refusal : IfErr result IsRefusedRoom
-    pub no_room : (result ≡ Err NoRoom) ↔ IsFullAtLimit old.capacity old.limit old.len
-    pub with_memory : CanGrow has_memory old.capacity old.limit greatest → IsOk result
-    pub had_place : old.len < old.capacity → IsOk result
+  -- an insertion is refused as their arena is full, for want of room or of memory
+  abbrev pub DependsOnRoom : {X : Type 0} → (has_memory : ℕ → Type 0) (greatest : ℕ) (old : ChainState A T) (result : Result X ChainError) → Type 0
+  DependsOnRoom has_memory greatest old result = DependsOnFill IsRefusedRoom NoRoom has_memory greatest (fill old) result
 
   -- the pointers and the values of all entries, in the order of their indexes
   abbrev pub all_values : ChainState A T → List (Pointer × T)

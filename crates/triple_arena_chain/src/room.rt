@@ -2,7 +2,9 @@
 
 ghost use Rattle.std.specs.Prelude.{◌≡◌, ◌≤◌, [], ◌∷◌, OnOk, OnErr};
 ghost use Rattle.triple_arena_ptr.specs.Numbers.{greatest_index};
+ghost use Rattle.triple_arena_stack.specs.Capacity.{IsWithin};
 ghost use Rattle.triple_arena.specs.Histories.{resizing, Continues};
+ghost use Rattle.triple_arena_chain.specs.Chains.{chains_in};
 ghost use Rattle.triple_arena_chain.specs.Room.{KeepsNodes, DependsOnLimit};
 
 use crate::chains::Chains;
@@ -17,9 +19,15 @@ impl<P: Ptr, T, A: CompactArenaTrait<P, Link<P, T>> + ArenaInsertTrait<P, Link<P
     T,
     A,
 > {
-    /// How many entries fit without growth.
+    /// How many entries fit without growth: no more than the limit allows, and than there are indexes.
     pub fn capacity(&self) -> usize
-        ensures { result ≡ self.now.capacity }
+        ensures value { result ≡ self.now.capacity }
+        ensures allowed { IsWithin self.now.limit result }
+        ensures indexed { result ≤ greatest_index P.Inx.greatest }
+
+        // What is read of chains is what their arena tells.
+        ensures arena { self.now
+            ≡ chains_in P.numbers A.slots A.capacity A.limit self.now.arena }
     {
         self.arena.capacity()
     }

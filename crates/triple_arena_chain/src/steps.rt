@@ -96,6 +96,8 @@ pub(crate) fn put<P: Ptr, T: Drop, A: ArenaInsertTrait<P, Link<P, T>>>(
         (A.capacity arena.old) (A.limit arena.old) (entry_count (A.slots arena.old)) }
     ensures with_memory { CanGrow A.has_memory (A.capacity arena.old) (A.limit arena.old)
         (greatest_index P.Inx.greatest) → IsOk result }
+    ensures indexed { OnOk result (entry_count (A.slots arena.old) ≡ A.capacity arena.old
+        → A.capacity arena.old < greatest_index P.Inx.greatest) }
     ensures had_place { entry_count (A.slots arena.old) < A.capacity arena.old → IsOk result }
 {
     arena.insert(Link {

@@ -8,12 +8,12 @@ use Rattle.triple_arena.specs.Entries.{look_up, entry_in, entry_count, with_valu
 use Rattle.triple_arena.specs.Items.{with_item}
 use Rattle.triple_arena.specs.laws.ItemLaws.{map-with_item}
 use Rattle.triple_arena.specs.laws.LookUpLaws.{entry_at, found_mapped, written_there, written_elsewhere}
-use Rattle.triple_arena_chain.specs.Chains.{Node, ChainState, nodes, value_at, after_at, IsLinked, IsInserted, IsRemoved}
+use Rattle.triple_arena_chain.specs.Chains.{Node, ChainState, nodes, value_at, after_at, IsLinked, IsInserted, IsRemoved, put_within_entry}
 use Rattle.triple_arena_chain.specs.laws.LinkLaws.{same_pointer, pointer_cases, leads_cases}
 use Rattle.triple_arena_surject.specs.declared.member.Member.{Member}
 use Rattle.triple_arena_surject.specs.declared.member.Shared.{Shared}
 use Rattle.triple_arena_surject.specs.Rings.{counts, label, with_keys, with_value, CountsLess, IsSound, IsRingOfOne}
-use Rattle.triple_arena_surject.specs.Surject.{SurjectState, found_at, key_at, set_at, named, val_at, AreTogether, AreOfBoth, IsNewSet, IsAdded, IsValued, IsUnited, IsKeyRemoved, IsSetRemoved, put_val, put_val_in, with_val, key_of, value_of, state_of}
+use Rattle.triple_arena_surject.specs.Surject.{SurjectState, found_at, key_at, set_at, named, val_at, AreTogether, AreOfBoth, IsNewSet, IsAdded, IsValued, IsUnited, IsKeyRemoved, IsSetRemoved, put_val, with_val, key_of, value_of, state_of}
 use Rattle.triple_arena_surject.proofs.Options.{some_there}
 use Rattle.triple_arena_surject.proofs.Rounds.{label_stays}
 use Rattle.triple_arena_surject.proofs.Leaving.{alone_of_set, another}
@@ -66,7 +66,7 @@ module _ {V : Type 0} where
     -- as the arena of values puts it
     module _ {B : Type 0} (slots_of : B → List (Option (ℕ × Shared V))) (put : B → ℕ → Shared V → B) (sets sets' : B) (here : slots_of sets ≡ slots) (put_so : sets' ≡ put sets c.0 (record shared { value = w })) where
       arena_written : sets' ≡ put_val slots_of put sets c.0 w
-      arena_written = put_so ∙ sym (ap (λ s. put_val_in slots_of put sets c.0 w (entry_in s c.0)) here ∙ ap (put_val_in slots_of put sets c.0 w) (entry_at slots c shared found))
+      arena_written = put_so ∙ sym (ap (λ s. put_within_entry slots_of put with_value sets c.0 w (entry_in s c.0)) here ∙ ap (put_within_entry slots_of put with_value sets c.0 w) (entry_at slots c shared found))
 
       pub state_written : {A P K : Type 0} (numbers : P → Pointer) (chains : ChainState A (Member P K)) (p : Pointer) (capacity more : ℕ) (limit other : Option ℕ)
           → label numbers (nodes chains) p ≡ Some c → entry_count slots' ≡ entry_count slots → more ≡ capacity → other ≡ limit

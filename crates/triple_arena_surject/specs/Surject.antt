@@ -8,14 +8,16 @@ use Rattle.triple_arena_base.specs.declared.invalidation.InvalidationOption.{Inv
 use Rattle.triple_arena_ptr.specs.Pointers.{Pointer}
 use Rattle.triple_arena.specs.ArenaState.{map_entry}
 use Rattle.triple_arena.specs.Ending.{told}
-use Rattle.triple_arena.specs.Entries.{entry_in, look_up, entry_count, with_value_in}
-use Rattle.triple_arena_chain.specs.Chains.{Node, ChainState, AreOnce}
+use Rattle.triple_arena.specs.Entries.{look_up, entry_count, with_value_in}
+use Rattle.triple_arena_chain.specs.Chains.{Node, ChainState, AreOnce, put_within, chains_in}
+use Rattle.triple_arena_chain.specs.declared.link.Link.{Link}
 use Rattle.triple_arena_base.specs.declared.errors.ReallocationError.{ReallocationError}
 use Rattle.triple_arena_base.specs.declared.errors.ReallocationError.TheVariants as growth
 use Rattle.triple_arena_chain.specs.declared.place.ChainError.{ChainError}
 use Rattle.triple_arena_chain.specs.declared.place.ChainError.TheVariants as chain
 use Rattle.triple_arena_surject.specs.declared.member.Member.{Member}
 use Rattle.triple_arena_surject.specs.declared.member.Shared.{Shared}
+use Rattle.triple_arena_surject.specs.Rings.{with_value}
 use Rattle.triple_arena_surject.specs.declared.refusal.SurjectError.{SurjectError}
 use Rattle.triple_arena_surject.specs.declared.refusal.SurjectError.TheVariants.{NoEntry, NoRoom, NoMemory}
 
@@ -35,13 +37,8 @@ pub record SurjectState (A B K V : Type 0) : Type 0 where
   pub val_limit : Option ℕ
 
 -- an arena of values with another value for the set that stands at an index, if one does
-module _ {B V : Type 0} (slots : B → List (Option (ℕ × Shared V))) (put : B → ℕ → Shared V → B) where
-  abbrev pub put_val_in : B → ℕ → V → Option (ℕ × Shared V) → B
-  put_val_in sets i value None = sets
-  put_val_in sets i value (Some e) = put sets i (record e.1 { value = value })
-
-  abbrev pub put_val : B → ℕ → V → B
-  put_val sets i value = put_val_in sets i value (entry_in (slots sets) i)
+abbrev pub put_val : {B V : Type 0} → (slots : B → List (Option (ℕ × Shared V))) (put : B → ℕ → Shared V → B) → B → ℕ → V → B
+put_val slots put = put_within slots put with_value
 
 module _ {A B K V : Type 0} where
   -- what is found under a pointer: a key, and the name of its set
@@ -198,6 +195,11 @@ module _ {P K V : Type 0} (numbers : P → Pointer) where
     val_capacity = capacity;
     val_limit = limit;
   }
+
+  -- the sets of keys in two arenas, of keys and of values, as the words of both tell them
+  abbrev pub sets_in : {A B : Type 0} → (A → List (Option (ℕ × Link P (Member P K)))) → (A → ℕ) → (A → Option ℕ) → (B → List (Option (ℕ × Shared V))) → (B → ℕ) → (B → Option ℕ) → A → B → SurjectState A B K V
+  sets_in slots capacity limit val_slots val_capacity val_limit keys sets =
+      state_of sets (chains_in numbers slots capacity limit keys) (val_slots sets) (val_capacity sets) (val_limit sets)
 
 -- what a refusal of chains and of an arena is told as
 abbrev pub told_of_chains : ChainError → SurjectError

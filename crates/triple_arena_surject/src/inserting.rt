@@ -4,7 +4,7 @@ ghost use Rattle.std.specs.Prelude.{◌≡◌, ◌↔◌, [], ◌∷◌, None, E
 ghost use Rattle.triple_arena_ptr.specs.Numbers.{greatest_index};
 ghost use Rattle.triple_arena.specs.Histories.{insertion, Continues};
 ghost use Rattle.triple_arena_surject.specs.Surject.{found_at, IsNewSet, IsAdded};
-ghost use Rattle.triple_arena_surject.specs.Room.{IsSame, HasOneMore, HasKeyMore, GrowsWhereFull, KeepsVals, DependsOnKeys, DependsOnBoth};
+ghost use Rattle.triple_arena_surject.specs.Room.{IsSame, HasKeyMore, HasValMore, GrowsWhereFull, KeepsVals, DependsOnKeys, DependsOnBoth};
 
 use crate::member::{Member, Shared};
 use crate::refusal::{SurjectError, told_of_chains, told_of_growth};
@@ -34,8 +34,8 @@ impl<
         // Done: the key stands alone in a set with this value, and there is one key and one set more.
         ensures inserted { IfOk result
             (λ p. IsNewSet self.old (P.numbers p) key value self.new) }
-        ensures size { OnOk result
-            (HasOneMore A.capacity A.grown B.capacity B.grown self.old self.new) }
+        ensures size { OnOk result (HasKeyMore A.capacity A.grown self.old self.new) }
+        ensures vals { OnOk result (HasValMore B.capacity B.grown self.old self.new) }
         ensures history { IfOk result (λ p. Continues A.fits self.old.arena
             (insertion (P.numbers p) ∷ []) self.new.arena) }
 

@@ -86,6 +86,8 @@ pub(crate) fn put<P: Ptr, V: Drop, B: ArenaInsertTrait<P, Shared<V>>>(
     ensures grown { OnOk result (B.capacity sets.new ≡ B.capacity (B.grown sets.old)) }
     ensures with_memory { CanGrow B.has_memory (B.capacity sets.old) (B.limit sets.old)
         (greatest_index P.Inx.greatest) → IsOk result }
+    ensures indexed { OnOk result (entry_count (B.slots sets.old) ≡ B.capacity sets.old
+        → B.capacity sets.old < greatest_index P.Inx.greatest) }
     ensures had_place { entry_count (B.slots sets.old) < B.capacity sets.old
         → IsOk result × (B.capacity sets.new ≡ B.capacity sets.old) }
 {

@@ -7,8 +7,8 @@ ghost use Rattle.triple_arena_stack.specs.Capacity.{stack_capacity};
 ghost use Rattle.triple_arena_stack.specs.StackKind.{new_room, new_limit, made_room, made_limit, CanHold};
 ghost use Rattle.triple_arena.specs.Entries.{entry_count};
 ghost use Rattle.triple_arena.specs.Histories.{History, remains};
-ghost use Rattle.triple_arena_surject.specs.Surject.{found_at, key_at, val_at, AreTogether, HasKeys, EachHasOther};
-ghost use Rattle.triple_arena_surject.specs.Room.{AreNoSets};
+ghost use Rattle.triple_arena_surject.specs.Surject.{found_at, key_at, val_at, AreTogether, HasKeys, EachHasOther, sets_in};
+ghost use Rattle.triple_arena_surject.specs.Room.{AreNoSets, CanBeMade};
 
 use crate::member::{Member, Shared};
 use crate::steps::{are_same, set_of};
@@ -84,7 +84,8 @@ impl<
     /// No sets in new arenas, with room for so many keys and so many sets.
     ///
     /// Refused where the constructor with room of one of the arenas is: past the greatest index, where its stack can't
-    /// hold so many, and where memory is refused, which it isn't where it is there.
+    /// hold so many, and where memory is refused, which it isn't where it is there. An array takes none, nor does a
+    /// stack without room.
     pub fn with_min_capacity(alloc: Global, keys: usize, values: usize) -> Result<Self, AllocError>
     where
         A: Drop,
@@ -101,11 +102,11 @@ impl<
             × CanHold A.kind keys
             × (values ≤ greatest_index P.Inx.greatest) × CanHold B.kind values) }
 
-        // It isn't refused where memory is there.
-        ensures with_memory { keys ≤ greatest_index P.Inx.greatest
+        // It isn't refused where neither arena is: where each takes no memory, or memory is there for it.
+        ensures succeeds { keys ≤ greatest_index P.Inx.greatest
             → values ≤ greatest_index P.Inx.greatest
-            → CanHold A.kind keys → CanHold B.kind values
-            → A.has_memory keys → B.has_memory values → IsOk result }
+            → CanBeMade A.has_memory A.kind keys → CanBeMade B.has_memory B.kind values
+            → IsOk result }
     {
         let keys = Chains::with_min_capacity(alloc, keys)?;
         let sets = B::with_min_capacity(alloc, values)?;
@@ -162,7 +163,13 @@ impl<
         ensures value { result ≡ self.now.len_vals }
         ensures fits { self.now.len_vals ≤ self.now.val_capacity }
         ensures onto { EachHasOther self.now }
+
+        // What is read of sets is what their arenas tell, of keys and of values.
+        ensures arenas { self.now ≡ sets_in P.numbers A.slots A.capacity A.limit
+            B.slots B.capacity B.limit self.now.arena self.now.val_arena }
     {
+        // What is read of chains is what their arena tells.
+        let _capacity = self.keys.capacity();
         self.sets.len()
     }
 

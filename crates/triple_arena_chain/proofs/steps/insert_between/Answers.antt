@@ -15,7 +15,7 @@ returns-in-Ok-clause-inserted g c =
     c.tie.ensures.nodes
 
 pub returns-in-Ok-clause-size : goal.returns-in-Ok-clause-size
-returns-in-Ok-clause-size g c = more_then_same _ _ _ _ _ c.in-Ok.ensures.size c.tie.ensures.size
+returns-in-Ok-clause-size g c = more_then_same _ _ _ _ _ _ c.in-Ok.ensures.size c.tie.ensures.size.len c.tie.ensures.size.same_capacity c.tie.ensures.size.same_limit
 
 pub returns-in-Ok-clause-room : goal.returns-in-Ok-clause-room
-returns-in-Ok-clause-room g c = depends_on_room _ _ _ c.put.result _ (sym (ap told_as c.in-Ok.is)) c.put.ensures.beyond c.put.ensures.with_memory c.put.ensures.had_place
+returns-in-Ok-clause-room g c = depends_on_room _ _ _ c.put.result _ (sym (ap told_as c.in-Ok.is)) c.put.ensures.beyond c.put.ensures.with_memory c.put.ensures.indexed c.put.ensures.had_place

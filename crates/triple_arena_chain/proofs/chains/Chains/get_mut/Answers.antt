@@ -2,7 +2,7 @@ use Rattle.std.proofs.Common.{rules, [], ◌≡◌, Some, sym, ap, ◌∙◌, su
 use Rattle.triple_arena.specs.Entries.{look_up}
 use Rattle.triple_arena.specs.Histories.{Continues}
 use Rattle.triple_arena.specs.laws.LookUpLaws.{entry_at}
-use Rattle.triple_arena_chain.specs.Chains.{nodes, value_at, with_value_at, put_value_in, put_value, IsWritten}
+use Rattle.triple_arena_chain.specs.Chains.{nodes, value_at, with_value_at, put_within_entry, put_value, with_link_value, IsWritten}
 use Rattle.triple_arena_chain.specs.laws.ResultLaws.{lends_alike}
 use Rattle.triple_arena_chain.proofs.Written.{value_read, state_written, linked_after, written_there}
 use Rattle.triple_arena_chain.proofs.chains.Chains.get_mut.Goals as goal
@@ -22,7 +22,7 @@ returns g c =
     let p = g.P.Ptr.numbers c.args.p in
     let link = c.in_ok-link.link.now in
     let found : look_up slots p ≡ Some link = search rules in
-    let same : (w : g.row.T.Denot) → g.A.ArenaStates.with_value arena p.0 (record link { value = w }) ≡ put arena p.0 w = λ w. sym (ap (put_value_in g.A.ArenaStates.slots g.A.ArenaStates.with_value arena p.0 w) (entry_at slots p link found)) in (
+    let same : (w : g.row.T.Denot) → g.A.ArenaStates.with_value arena p.0 (record link { value = w }) ≡ put arena p.0 w = λ w. sym (ap (put_within_entry g.A.ArenaStates.slots g.A.ArenaStates.with_value with_link_value arena p.0 w) (entry_at slots p link found)) in (
       lends_alike _ _ _ (λ w.
           state_written g.P.Ptr.numbers slots c.args.p link w found put arena _ _ _ _ _ _ (same w)
           (g.met.A.ArenaLaws.slots_with_value arena p.0 (record link { value = w })) (g.met.A.ArenaLaws.len_with_value arena p.0 (record link { value = w }))

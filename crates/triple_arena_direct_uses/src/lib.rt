@@ -10,6 +10,7 @@ pub mod holders;
 pub mod keeping;
 pub mod labels;
 pub mod leases;
+pub mod moving_notes;
 pub mod names_beside_two;
 pub mod netlist;
 pub mod office;

@@ -18,3 +18,4 @@ mod set_points;
 mod sizes;
 mod streams;
 mod texts;
+mod tickets;

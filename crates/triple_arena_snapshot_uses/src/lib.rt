@@ -5,6 +5,7 @@ pub mod circuit;
 pub mod coupons;
 pub mod on_disk;
 pub mod set_points;
+pub mod tickets;
 
 pub use circuit::{Cell, Circuit, Net};
 pub use coupons::Coupons;

@@ -1,6 +1,7 @@
 //! The calls of an `Arena` that no line of the shell names.
 
 use crate::tests::arenas::{Numbers, has_text, numbers};
+use crate::tests::loops::add_in_each_way;
 use std::num::NonZeroU128;
 use triple_arena::{Arena, ArenaSlot, ArenaTrait, CompactArenaTrait};
 use triple_arena_base::Advancer;
@@ -11,22 +12,6 @@ use triple_arena_test_kit::{Wide, inx, is, pointer};
 fn a_default_slot_is_free(rt: HostRuntime) {
     let slot: ArenaSlot<P0, u64> = ArenaSlot::default();
     is(matches!(slot, ArenaSlot::Free(_)), true).expect(&rt, "whether the slot is free");
-}
-
-// Adds to each value 10 in a loop over `iter_mut`, 100 by the steps of `vals_mut`, 1000 in a loop over the arena,
-// and 10000 by a closure.
-fn add_in_each_way(arena: &mut Numbers) {
-    for (_p, value) in arena.iter_mut() {
-        *value = value.wrapping_add(10);
-    }
-    let mut values = arena.vals_mut();
-    while let Some(value) = values.next() {
-        *value = value.wrapping_add(100);
-    }
-    for (_p, value) in &mut *arena {
-        *value = value.wrapping_add(1000);
-    }
-    arena.for_each_mut(|_p, value| *value = value.wrapping_add(10_000));
 }
 
 // The value under a pointer that is looked up by `[]`, over which another is written so.
@@ -43,7 +28,7 @@ fn exchange(arena: &mut Numbers, p: P0, value: u64) -> Option<u64> {
 fn each_way_to_write_to_the_values(rt: HostRuntime) {
     let mut arena = numbers(&rt, rt.alloc(), 3, &[]);
     let (first, third) = (pointer(1, 2), pointer(3, 2));
-    add_in_each_way(&mut arena);
+    drop(add_in_each_way(&mut arena));
     let lent = arena.with_disjoint_mut(first, third, |a, b| {
         *b = 7;
         *a

@@ -1,4 +1,4 @@
-//! Arenas on each type of pointers, and values that hold pointers of two.
+//! Arenas on each type of pointers.
 
 use crate::tests::arenas::has_text;
 use std::alloc::Global;
@@ -40,26 +40,4 @@ fn an_arena_on_each_type_of_pointers(rt: HostRuntime) {
     serves::<B>(&rt, alloc, "{B[1](3): 3, B[2](2): 2}");
     serves::<Narrow>(&rt, alloc, "{PtrOf[1](3): 3, PtrOf[2](2): 2}");
     serves::<Wide>(&rt, alloc, "{PtrOf[1](3): 3, PtrOf[2](2): 2}");
-}
-
-#[test]
-fn a_value_holds_pointers_of_two_types(rt: HostRuntime) {
-    let alloc = rt.alloc();
-    let mut texts: Arena<P0, &'static str> = Arena::on_heap(alloc);
-    texts.insert("test").expect(&rt, "memory");
-    let hello = texts.insert("hello").expect(&rt, "memory");
-    let mut pairs: Arena<Q2, (P0, Q2)> = Arena::on_heap(alloc);
-    let first = pairs.insert((hello, Q2::invalid())).expect(&rt, "memory");
-    pairs.insert((hello, first)).expect(&rt, "memory");
-    has_text(
-        alloc,
-        &pairs,
-        "{Q2[1](2): (P0[2](2), Q2[ffffffffffffffff](1)), \
-        Q2[2](2): (P0[2](2), Q2[1](2))}",
-    )
-    .expect(&rt, "the pairs");
-    let mut others: Arena<Q2, &'static str> = Arena::on_heap(alloc);
-    let taken = texts.remove(hello).allow().expect(&rt, "the text");
-    others.insert(taken).expect(&rt, "memory");
-    has_text(alloc, &others, r#"{Q2[1](2): "hello"}"#).expect(&rt, "the others");
 }

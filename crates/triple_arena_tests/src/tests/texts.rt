@@ -1,24 +1,17 @@
 //! The text of an arena.
 
-use crate::tests::arenas::has_text;
+use crate::tests::arenas::{Numbers, has_text};
 use std::alloc::Global;
 use std::fmt;
-use std::fmt::{Debug, Write};
+use std::fmt::Write;
 use std::process::Abort;
-use triple_arena::{Arena, ArenaInsertTrait, ArenaSlot, ArenaTrait};
-use triple_arena_ptr::{P0, P4, Ptr, Q2};
-use triple_arena_stack::{
-    NonZeroInxArray, NonZeroInxBoxedSlice, NonZeroInxGenericStack, NonZeroInxLimitedVec,
-    NonZeroInxVec,
-};
-use triple_arena_test_kit::{Narrow, is, is_shown};
+use triple_arena::Arena;
+use triple_arena_ptr::{P0, Ptr, Q2};
+use triple_arena_test_kit::{is, pointer};
 
-// An arena over a stack with room for three: of three values the second goes, and the third gets a new pointer.
-fn two_left<P: Ptr, S: NonZeroInxGenericStack<ArenaSlot<P, u64>> + Drop>(
-    rt: &impl Abort,
-    alloc: Global,
-) -> Arena<P, u64, S> {
-    let mut arena: Arena<P, u64, S> = Arena::with_min_capacity(alloc, 3).expect(rt, "memory");
+// Of three values the second goes, and the third gets a new pointer.
+fn two_left(rt: &impl Abort, alloc: Global) -> Numbers {
+    let mut arena: Numbers = Arena::on_heap(alloc);
     arena.insert(7).expect(rt, "memory");
     let second = arena.insert(6).expect(rt, "memory");
     let third = arena.insert(8).expect(rt, "memory");
@@ -27,31 +20,12 @@ fn two_left<P: Ptr, S: NonZeroInxGenericStack<ArenaSlot<P, u64>> + Drop>(
     arena
 }
 
-// The text of such an arena.
-fn stands_by_index<P: Ptr, S: NonZeroInxGenericStack<ArenaSlot<P, u64>> + Drop>(
-    rt: &impl Abort,
-    alloc: Global,
-    text: &str,
-) {
-    let arena = two_left::<P, S>(rt, alloc);
-    is_shown(alloc, &arena, text).expect(rt, "the arena");
-}
-
-type OnHeap<P> = NonZeroInxVec<ArenaSlot<P, u64>>;
-
-type UpToLimit<P> = NonZeroInxLimitedVec<ArenaSlot<P, u64>>;
-
-type Fixed<P> = NonZeroInxBoxedSlice<ArenaSlot<P, u64>>;
-
-type InArray<P> = NonZeroInxArray<ArenaSlot<P, u64>, 3>;
+const TWO_LEFT: &str = "{P0[1](2): 7, P0[3](4): 8}";
 
 #[test]
-fn entries_stand_by_index_over_each_stack(rt: HostRuntime) {
-    let alloc = rt.alloc();
-    stands_by_index::<P0, OnHeap<P0>>(&rt, alloc, "{P0[1](2): 7, P0[3](4): 8}");
-    stands_by_index::<Q2, UpToLimit<Q2>>(&rt, alloc, "{Q2[1](2): 7, Q2[3](4): 8}");
-    stands_by_index::<P4, Fixed<P4>>(&rt, alloc, "{P4[1]: 7, P4[3]: 8}");
-    stands_by_index::<Narrow, InArray<Narrow>>(&rt, alloc, "{PtrOf[1](2): 7, PtrOf[3](4): 8}");
+fn entries_stand_by_index(rt: HostRuntime) {
+    let arena = two_left(&rt, rt.alloc());
+    has_text(rt.alloc(), &arena, TWO_LEFT).expect(&rt, "the arena");
 }
 
 #[test]
@@ -67,6 +41,21 @@ fn a_value_has_its_own_text(rt: HostRuntime) {
     links.insert((1337, Some(first))).expect(&rt, "memory");
     let text = "{P0[1](2): (42, None), P0[2](2): (1337, Some(P0[1](2)))}";
     has_text(alloc, &links, text).expect(&rt, "the links");
+}
+
+#[test]
+fn a_value_holds_pointers_of_two_types(rt: HostRuntime) {
+    let hello = pointer(2, 2);
+    let mut pairs: Arena<Q2, (P0, Q2)> = Arena::on_heap(rt.alloc());
+    let first = pairs.insert((hello, Q2::invalid())).expect(&rt, "memory");
+    pairs.insert((hello, first)).expect(&rt, "memory");
+    has_text(
+        rt.alloc(),
+        &pairs,
+        "{Q2[1](2): (P0[2](2), Q2[ffffffffffffffff](1)), \
+        Q2[2](2): (P0[2](2), Q2[1](2))}",
+    )
+    .expect(&rt, "the pairs");
 }
 
 // Takes so many bytes of a text, and refuses each piece that is longer than what is left of them.
@@ -93,7 +82,7 @@ impl Write for Refusing {
 
 // Writes an arena to a writer that takes so many bytes: how many more it takes then, or how many pieces it
 // refused.
-fn written<A: Debug>(arena: &A, bytes_left: usize) -> Result<usize, usize> {
+fn written(arena: &Numbers, bytes_left: usize) -> Result<usize, usize> {
     let mut writer = Refusing {
         bytes_left,
         refusals: 0,
@@ -105,15 +94,11 @@ fn written<A: Debug>(arena: &A, bytes_left: usize) -> Result<usize, usize> {
 }
 
 // Each failure before the last byte of the text ends the writing.
-fn is_asked_no_more<A: Debug>(rt: &impl Abort, arena: &A, text: &str) {
-    for bytes_left in 0..text.len() {
-        is(written(arena, bytes_left), Err(1)).expect(rt, "how many pieces are refused");
-    }
-    is(written(arena, text.len()), Ok(0)).expect(rt, "how many bytes are left");
-}
-
 #[test]
 fn a_writer_that_fails_is_asked_no_more(rt: HostRuntime) {
-    let arena = two_left::<P0, OnHeap<P0>>(&rt, rt.alloc());
-    is_asked_no_more(&rt, &arena, "{P0[1](2): 7, P0[3](4): 8}");
+    let arena = two_left(&rt, rt.alloc());
+    for bytes_left in 0..TWO_LEFT.len() {
+        is(written(&arena, bytes_left), Err(1)).expect(&rt, "how many pieces are refused");
+    }
+    is(written(&arena, TWO_LEFT.len()), Ok(0)).expect(&rt, "how many bytes are left");
 }

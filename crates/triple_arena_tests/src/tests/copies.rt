@@ -1,16 +1,16 @@
 //! Worked copies from one arena to another.
 
 use crate::tests::arenas::{Numbers, has_text, numbers};
-use crate::tests::direct_calls::is_placed;
 use std::num::NonZeroU64;
 use triple_arena::{
-    Arena, ArenaCloneFromWith, ArenaDirectInsertTrait, ArenaInsertTrait, ArenaSlot, ArenaTrait,
+    Arena, ArenaCloneFromWith, ArenaDirectInsertEntryTrait, ArenaDirectInsertTrait,
+    ArenaInsertTrait, ArenaSlot, ArenaTrait,
 };
 use triple_arena_base::{CloneFromError, ReallocationError};
 use triple_arena_direct_arena::DirectArena;
 use triple_arena_ptr::{P0, Ptr, Q2};
 use triple_arena_stack::{NonZeroInxGenericStack, NonZeroInxLimitedVec};
-use triple_arena_test_kit::{Narrow, Numbered, is, is_shown, pointer};
+use triple_arena_test_kit::{is, is_shown, pointer};
 
 #[test]
 fn arenas_cloned_into_each_other_keep_their_room(rt: HostRuntime) {
@@ -56,38 +56,6 @@ fn a_map_that_refuses_leaves_those_before(rt: HostRuntime) {
     }
 }
 
-#[test]
-fn a_map_that_refuses_leaves_those_before_in_a_direct_arena(rt: HostRuntime) {
-    let source = numbers(&rt, rt.alloc(), 5, &[2, 4]);
-    let mut direct: DirectArena<P0, u64> = DirectArena::new(rt.alloc());
-    let told = direct.clone_from_with(&source, |_p, number: &u64| unless(*number, 5));
-    is(told, Err(CloneFromError::Map(5))).expect(&rt, "the refusal");
-    is_shown(rt.alloc(), &direct, "{P0[1](2): 1, P0[3](2): 3}").expect(&rt, "the direct arena");
-    is(direct.pop_free_end_slots(9), 0).expect(&rt, "how many free slots are at the end");
-    is(direct.backing().len(), 3).expect(&rt, "how many slots there are");
-}
-
-// The direct one has an entry of the generation 9.
-#[test]
-fn an_arena_that_is_cloned_from_a_direct_one_begins_at_two(rt: HostRuntime) {
-    let alloc = rt.alloc();
-    let mut direct: DirectArena<P0, u64> = DirectArena::with_min_capacity(alloc, 4).expect(
-        &rt, "memory",
-    );
-    is(is_placed(&mut direct, pointer(1, 9), 9, None), true).expect(
-        &rt,
-        "whether there is a place",
-    );
-    let mut arena: Numbers = Arena::on_heap(alloc);
-    arena.clone_from(&direct).expect(&rt, "memory");
-    has_text(alloc, &arena, "{P0[1](9): 9}").expect(&rt, "the arena");
-    is(arena.capacity(), 1).expect(&rt, "the capacity");
-    is(arena.singular_generation(), NonZeroU64::new(2)).expect(&rt, "the generation");
-    is(arena.insert(7), Ok(pointer(2, 2))).expect(&rt, "the next pointer");
-    let copy = direct.clone(alloc).expect(&rt, "memory");
-    is_shown(alloc, &copy, "{P0[1](9): 9}").expect(&rt, "the clone");
-}
-
 // It has the texts of numbers, of which one was removed before, and one is inserted then.
 #[test]
 fn a_mirror_of_texts_keeps_the_pointers(rt: HostRuntime) {
@@ -103,11 +71,22 @@ fn a_mirror_of_texts_keeps_the_pointers(rt: HostRuntime) {
     is(mirror.capacity(), 2).expect(&rt, "the capacity");
     let p = numbers.insert(7).expect(&rt, "memory");
     let seven = String::from_str(alloc, "7").expect(&rt, "memory");
-    is(is_placed(&mut mirror, p, seven, None), true).expect(&rt, "whether there is a place");
+    is(is_noted(&mut mirror, p, seven), true).expect(&rt, "whether there is a place");
     is_shown(alloc, &mirror, r#"{P0[1](3): "7", P0[2](2): "1337"}"#).expect(&rt, "the mirror");
     // another pointer of a free index is as good
     drop(mirror.remove_inx(p.inx()));
     is(mirror.can_direct_insert(pointer(1, 1)), true).expect(&rt, "whether there is a place");
+}
+
+// Inserts a text by an entry within the capacity: whether there was a place.
+fn is_noted(mirror: &mut DirectArena<P0, String>, p: P0, text: String) -> bool {
+    match mirror.direct_insert_within_capacity(p) {
+        Ok(entry) => {
+            entry.insert(text);
+            true
+        }
+        Err(_) => false,
+    }
 }
 
 // A new arena over its stack has no place.
@@ -121,50 +100,19 @@ fn an_arena_under_a_limit_has_no_clone(rt: HostRuntime) {
     is(arena.get(p).copied(), Some(7)).expect(&rt, "the value");
 }
 
-// Has the numbers go over to an arena, under the generation 7.
-fn transfer<P: Ptr>(
-    target: &mut Arena<P, u64>,
-    source: &mut Numbers,
-) -> Result<(), ReallocationError>
-where
-    P::Gen: Numbered,
-{
-    let seven = pointer::<P>(1, 7).generation();
-    target.transfer_reallocating(seven, source, |_old, taken, _new| taken.allow())
-}
-
-// Of 256 numbers and then of 255, to an arena with so many indexes.
-#[test]
-fn a_transfer_past_the_greatest_index_is_refused(rt: HostRuntime) {
-    let mut source = numbers(&rt, rt.alloc(), 256, &[]);
-    let mut target: Arena<Narrow, u64> = Arena::on_heap(rt.alloc());
-    let refused = transfer(&mut target, &mut source);
-    is(refused, Err(ReallocationError::AllocError)).expect(&rt, "the refusal");
-    is([source.len(), target.len()], [256, 0]).expect(&rt, "the lengths");
-    drop(source.remove(pointer(1, 2)));
-    is(transfer(&mut target, &mut source), Ok(())).expect(&rt, "what fits");
-    is([source.len(), target.len()], [0, 255]).expect(&rt, "the lengths then");
-    is(target.get(pointer(255, 7)).copied(), Some(256)).expect(&rt, "the last number");
-}
-
-// The last two of three numbers go over to an arena of other pointers, and then two that are inserted
-// into the source to a direct one.
+// The last two of three numbers go over to an arena of other pointers.
 #[test]
 fn a_transfer_renumbers_and_empties_its_source(rt: HostRuntime) {
     let alloc = rt.alloc();
     let mut source = numbers(&rt, alloc, 3, &[1]);
     let mut target: Arena<Q2, u64> = Arena::on_heap(alloc);
-    transfer(&mut target, &mut source).expect(&rt, "memory");
+    let seven = pointer::<Q2>(1, 7).generation();
+    target
+        .transfer_reallocating(seven, &mut source, |_old, taken, _new| taken.allow())
+        .expect(&rt, "memory");
     has_text(alloc, &target, "{Q2[1](7): 2, Q2[2](7): 3}").expect(&rt, "the target");
     is(target.capacity(), 2).expect(&rt, "the capacity");
     is(source.is_empty(), true).expect(&rt, "whether the source has no entry");
     is(source.singular_generation(), NonZeroU64::new(5)).expect(&rt, "the generation");
     is(source.insert(4), Ok(pointer(2, 5))).expect(&rt, "the next pointer");
-    source.insert(5).expect(&rt, "memory");
-    let mut direct: DirectArena<Narrow, u64> = DirectArena::new(alloc);
-    let seven = pointer::<Narrow>(1, 7).generation();
-    direct
-        .transfer_reallocating(seven, &mut source, |_old, taken, _new| taken.allow())
-        .expect(&rt, "memory");
-    is_shown(alloc, &direct, "{PtrOf[1](7): 5, PtrOf[2](7): 4}").expect(&rt, "the direct arena");
 }

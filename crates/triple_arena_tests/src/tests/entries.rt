@@ -41,21 +41,6 @@ pub fn insert_and_write<P: Ptr, T: Drop, S: NonZeroInxGenericStack<ArenaSlot<P, 
     Ok(())
 }
 
-/// Inserts `first` by `entry_insert`, and writes `second` over it.
-pub fn enter<P: Ptr, T: Drop, S: NonZeroInxGenericStack<ArenaSlot<P, T>>>(
-    arena: &mut Arena<P, T, S>,
-    first: T,
-    second: T,
-) -> Result<(), ReallocationError> {
-    match arena.entry_insert() {
-        Ok(entry) => {
-            *entry.insert(first) = second;
-            Ok(())
-        }
-        Err(refused) => Err(refused),
-    }
-}
-
 // An entry that is let go leaves the room that it made, and one that is filled its pointer.
 #[test]
 fn a_dropped_entry_leaves_its_room(rt: HostRuntime) {

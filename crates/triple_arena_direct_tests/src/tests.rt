@@ -7,6 +7,5 @@ mod extending;
 mod map_values;
 mod shown;
 mod strict;
-mod strict_calls;
-mod strict_ends;
+mod tables;
 mod texts;

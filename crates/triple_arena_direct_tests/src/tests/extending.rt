@@ -1,6 +1,5 @@
 //! Values that come from an iterator.
 
-use crate::tests::shown::arena_is_shown;
 use triple_arena::{Arena, ArenaSlot, ArenaTrait, InsertFailed};
 use triple_arena_base::ReallocationError;
 use triple_arena_direct::{extend, from_iter};
@@ -17,26 +16,19 @@ const REFUSED: InsertFailed<u64> = InsertFailed {
     error: ReallocationError::BeyondMaxCapacity,
 };
 
-// Of five values three find a place: the fourth comes back, and the fifth is left.
+// No arena is made of five values, and one is made of two. Of five that come to an empty one three find a place: the
+// fourth comes back, and the fifth is left.
 #[test]
 fn values_come_until_one_is_refused(rt: HostRuntime) {
-    let mut arena: OfThree = Arena::new(rt.alloc());
+    let alloc = rt.alloc();
+    let made: Result<OfThree, InsertFailed<u64>> = from_iter(alloc, 1..6);
+    is(made.err(), Some(REFUSED)).expect(&rt, "the refusal of five");
+    let made: OfThree = from_iter(alloc, 1..3).expect(&rt, "places for two");
+    is_shown(alloc, &made, "{P0[1](2): 1, P0[2](2): 2}").expect(&rt, "the arena of two");
+    let mut arena: OfThree = Arena::new(alloc);
     let mut values = 1..6;
     is(extend(&mut arena, &mut values), Err(REFUSED)).expect(&rt, "the refusal");
-    is(arena.len(), 3).expect(&rt, "the length");
     is(values.next(), Some(5)).expect(&rt, "the value that is left");
     let text = "{P0[1](2): 1, P0[2](2): 2, P0[3](2): 3}";
-    is_shown(rt.alloc(), &arena, text).expect(&rt, "the arena");
-}
-
-#[test]
-fn an_arena_is_made_of_what_comes(rt: HostRuntime) {
-    let arena: Arena<P0, u64> = from_iter(rt.alloc(), 1..3).expect(&rt, "memory");
-    arena_is_shown(rt.alloc(), &arena, "{P0[1](2): 1, P0[2](2): 2}").expect(&rt, "the arena");
-}
-
-#[test]
-fn no_arena_is_made_of_more_than_its_limit(rt: HostRuntime) {
-    let made: Result<OfThree, InsertFailed<u64>> = from_iter(rt.alloc(), 1..6);
-    is(made.err(), Some(REFUSED)).expect(&rt, "the refusal");
+    is_shown(alloc, &arena, text).expect(&rt, "the arena");
 }

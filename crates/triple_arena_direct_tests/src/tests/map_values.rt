@@ -3,15 +3,15 @@
 use crate::tests::compaction::{filled, map_of};
 use std::alloc::{AllocError, Global};
 use std::collections::{BTreeMap, HashMap};
-use triple_arena::Arena;
 use triple_arena_direct::{DirectArena, recast_hash_values, recast_values};
 use triple_arena_ptr::P0;
 use triple_arena_test_kit::{is_shown, pointer};
 
 // The map of a compaction of three entries, of which the first is gone.
 fn map_of_three(alloc: Global) -> Option<DirectArena<P0, P0>> {
-    let mut arena: Arena<P0, u64> = filled(alloc, &[10, 20, 30], &[1])?;
-    map_of(&mut arena, alloc, false).ok()
+    let nodes = [(10, None), (20, None), (30, None)];
+    let mut nodes = filled(alloc, &nodes, &[1])?;
+    map_of(&mut nodes, alloc, false)
 }
 
 // Names of the last, the first and the second entry.

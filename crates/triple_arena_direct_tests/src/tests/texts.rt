@@ -1,15 +1,15 @@
 //! Texts of refusals, and those of arenas of thousands of entries.
 
-use crate::tests::shown::{arena_is_shown, direct_is_shown, strict_is_shown};
+use crate::tests::direct::Numbers;
+use crate::tests::shown::{arena_is_shown, strict_is_shown};
 use std::alloc::{AllocError, Global};
-use triple_arena::{Arena, ArenaCloneFromWith, ArenaTrait};
+use triple_arena::Arena;
 use triple_arena_base::{CompactError, ReallocationError};
 use triple_arena_direct::{
-    CompactBothError, DirectArena, StrictCompactBothError, StrictCompactError, StrictError,
-    into_strict,
+    CompactBothError, StrictCompactBothError, StrictCompactError, StrictError, into_strict,
 };
 use triple_arena_ptr::P0;
-use triple_arena_test_kit::{are_written, is};
+use triple_arena_test_kit::{are_written, is, pointer};
 
 const AT_ITS_END: &str = "the generation counter is at its greatest value";
 
@@ -89,9 +89,11 @@ fn thousands_of_entries_have_their_text(rt: HostRuntime) {
         arena.insert(number).expect(&rt, "memory");
     }
     arena_is_shown(alloc, &arena, &text).expect(&rt, "an arena");
-    let mut direct: DirectArena<P0, u64> = DirectArena::new(alloc);
-    direct.clone_from(&arena).expect(&rt, "memory");
-    direct_is_shown(alloc, &direct, &text).expect(&rt, "a direct arena");
+    let mut direct = Numbers::with_room(&rt, alloc, ENTRIES as usize);
+    for number in 1..=ENTRIES {
+        direct.insert(pointer(number as usize, 2), number);
+    }
+    direct.is_shown(alloc, &text).expect(&rt, "a direct arena");
     match into_strict(arena) {
         Ok(strict) => strict_is_shown(alloc, &strict, &text).expect(&rt, "a strict arena"),
         Err(_arena) => is(false, true).expect(&rt, "whether it became a strict one"),

@@ -4,15 +4,13 @@ ghost use Rattle.std.proofs.Common.{ap};
 ghost use Rattle.triple_arena_base.specs.Held.{held_itself, refill_itself, held_option, refill_option};
 ghost use Rattle.triple_arena_base.specs.laws.HeldLaws.{itself_held_refill, itself_refill_held, itself_refill_refill, option_held_refill, option_refill_held, option_refill_refill};
 
-use crate::tests::compaction::filled;
-use crate::tests::shown::{arena_is_shown, strict_is_shown};
+use crate::tests::shown::{direct_is_shown, strict_is_shown};
 use std::alloc::Global;
 use std::process::Abort;
-use triple_arena::Arena;
 use triple_arena_base::{Recast, Recaster};
-use triple_arena_direct::{StrictArena, compress_recast_both};
+use triple_arena_direct::StrictArena;
 use triple_arena_ptr::{P0, Ptr, Q2};
-use triple_arena_test_kit::{inx, is, is_shown, pointer};
+use triple_arena_test_kit::{inx, is, pointer};
 
 // What points to a cell and to a net, or to either, or to nothing.
 #[derive(Clone, Copy, Debug, Drop)]
@@ -90,25 +88,6 @@ fn linked_nets() -> [Ends; 3] {
     [at(0, 0), at(2, 3), at(3, 0)]
 }
 
-#[test]
-fn both_arenas_follow_each_other(rt: HostRuntime) {
-    let alloc = rt.alloc();
-    let mut cells: Arena<P0, Ends> = filled(alloc, &linked_cells(), &[1]).expect(
-        &rt,
-        "memory for cells",
-    );
-    let mut nets: Arena<Q2, Ends> = filled(alloc, &linked_nets(), &[1]).expect(
-        &rt,
-        "memory for nets",
-    );
-    let answer = compress_recast_both(&mut cells, &mut nets, alloc, false);
-    let text = "Ok((Success({P0[2](2): P0[1](4), P0[3](2): P0[2](4)}), \
-        Success({Q2[2](2): Q2[1](4), Q2[3](2): Q2[2](4)})))";
-    is_shown(alloc, &answer, text).expect(&rt, "the answer");
-    arena_is_shown(alloc, &cells, CELLS).expect(&rt, "the cells");
-    arena_is_shown(alloc, &nets, NETS).expect(&rt, "the nets");
-}
-
 // A strict arena of three, of which the first is gone.
 fn behind_a_gap<P: Ptr>(
     rt: &impl Abort,
@@ -128,10 +107,13 @@ fn strict_arenas_follow_each_other(rt: HostRuntime) {
     let alloc = rt.alloc();
     let mut cells: StrictArena<P0, Ends> = behind_a_gap(&rt, alloc, &linked_cells());
     let mut nets: StrictArena<Q2, Ends> = behind_a_gap(&rt, alloc, &linked_nets());
-    let answer = cells.compress_recast_both(&mut nets, alloc);
-    let text = "Ok(({P0[2](2): P0[1](4), P0[3](2): P0[2](4)}, \
-        {Q2[2](2): Q2[1](4), Q2[3](2): Q2[2](4)}))";
-    is_shown(alloc, &answer, text).expect(&rt, "the answer");
+    let (of_cells, of_nets) = cells
+        .compress_recast_both(&mut nets, alloc)
+        .expect(&rt, "memory for maps");
+    let text = "{P0[2](2): P0[1](4), P0[3](2): P0[2](4)}";
+    direct_is_shown(alloc, &of_cells, text).expect(&rt, "the map of cells");
+    let text = "{Q2[2](2): Q2[1](4), Q2[3](2): Q2[2](4)}";
+    direct_is_shown(alloc, &of_nets, text).expect(&rt, "the map of nets");
     strict_is_shown(alloc, &cells, CELLS).expect(&rt, "the cells");
     strict_is_shown(alloc, &nets, NETS).expect(&rt, "the nets");
 }

@@ -1,17 +1,15 @@
 //! Compaction that tells the new pointers, and that renames those which the values hold.
 
-use crate::tests::compaction::{Node, answer_is_shown, filled, map_of};
+use crate::tests::compaction::{Compaction, Node, Nodes, answer_is_shown, compact, filled, map_of};
 use crate::tests::shown::{arena_is_shown, direct_is_shown};
 use std::alloc::Global;
 use std::error::Error;
 use std::process::Abort;
-use triple_arena::{Arena, ArenaDirectInsertTrait, ArenaTrait};
+use triple_arena::Arena;
 use triple_arena_base::{CompactError, Recast};
-use triple_arena_direct::{DirectArena, compress_recast};
+use triple_arena_direct::StrictArena;
 use triple_arena_ptr::{P0, Ptr};
-use triple_arena_test_kit::{B, Narrow, is, is_shown, pointer};
-
-type Nodes = Arena<P0, Node<P0>>;
+use triple_arena_test_kit::{Narrow, inx, is, is_shown, pointer};
 
 // Compacts an arena, and recasts it by the map: the map, the answer to recasting, and then the arena show
 // these.
@@ -29,14 +27,15 @@ fn follows_its_map(
 }
 
 // Compacts an arena: the answer, and then the arena show these.
-fn is_renamed<P: Ptr>(
+fn is_renamed(
     rt: &impl Abort,
     alloc: Global,
-    nodes: &mut Arena<P, Node<P>>,
+    nodes: &mut Nodes,
     reset_generation: bool,
     [answer, then]: [&str; 2],
 ) {
-    let told = compress_recast(nodes, alloc, reset_generation);
+    let (mut none, renaming) = (Vec::new(alloc), Compaction::Renaming(reset_generation));
+    let told = compact(nodes, &mut none, alloc, renaming);
     answer_is_shown(alloc, &told, answer).expect(rt, "the answer");
     arena_is_shown(alloc, nodes, then).expect(rt, "the arena");
 }
@@ -117,94 +116,36 @@ fn each_link_is_renamed_once(rt: HostRuntime) {
     is_renamed(&rt, alloc, &mut nodes, true, shown);
 }
 
-type DirectNodes = DirectArena<P0, Node<P0>>;
-
-// A direct arena of four places, with these nodes.
-fn with_nodes(alloc: Global, nodes: &[(P0, Node<P0>)]) -> Option<DirectNodes> {
-    let mut arena = DirectNodes::with_min_capacity(alloc, 4).ok()?;
-    for (p, node) in nodes {
-        if !arena.can_direct_insert(*p) {
-            return None;
-        }
-        arena.direct_insert_reserved(*p, *node);
-    }
-    Some(arena)
-}
-
-#[test]
-fn a_direct_arena_keeps_its_generations(rt: HostRuntime) {
-    let alloc = rt.alloc();
-    let nodes = [
-        (pointer(4, 7), (1, Some(pointer(2, 9)))),
-        (pointer(2, 9), (2, None)),
-    ];
-    let mut nodes = with_nodes(alloc, &nodes).expect(&rt, "places for nodes");
-    let told = compress_recast(&mut nodes, alloc, false);
-    let text = "Ok(Success({P0[2](9): P0[1](9), P0[4](7): P0[2](7)}))";
-    answer_is_shown(alloc, &told, text).expect(&rt, "the answer");
-    let text = "{P0[1](9): (2, None), P0[2](7): (1, Some(P0[1](9)))}";
-    direct_is_shown(alloc, &nodes, text).expect(&rt, "the arena");
-}
-
-#[test]
-fn a_compaction_tells_of_a_wrap(rt: HostRuntime) {
-    let mut nodes: Arena<B, Node<B>> = Arena::on_heap(rt.alloc());
-    for _ in 0..253 {
-        let p = nodes.insert((0, None)).expect(&rt, "memory for a node");
-        drop(nodes.remove(p));
-    }
-    let inserted = nodes.insert((7, Some(pointer(1, 255))));
-    is(inserted, Ok(pointer(1, 255))).expect(&rt, "the greatest generation");
-    let shown = [
-        "Ok(GenerationOverflow({B[1](ff): B[1](2)}))",
-        "{B[1](2): (7, Some(B[1](2)))}",
-    ];
-    is_renamed(&rt, rt.alloc(), &mut nodes, false, shown);
-}
-
-fn numbers(alloc: Global, count: u64) -> Option<Vec<u64>> {
-    let mut numbers = Vec::new(alloc);
-    for number in 1..=count {
-        numbers.push(number).ok()?;
-    }
-    Some(numbers)
-}
-
-// What is found under two pointers, and how many entries there are.
-type Found<P> = ([Option<P>; 2], usize);
-
-// What the map of a compaction has under two pointers, and how many; of so many entries, of which those at
-// these indexes are removed.
-fn mapped<P: Ptr>(
-    alloc: Global,
-    count: u64,
-    removed: &[usize],
-    [first, last]: [P; 2],
-) -> Option<Found<P>> {
-    let numbers = numbers(alloc, count)?;
-    let mut arena: Arena<P, u64> = filled(alloc, numbers.as_slice(), removed)?;
-    let images = map_of(&mut arena, alloc, false).ok()?;
-    let images_of_both = [images.get(first).copied(), images.get(last).copied()];
-    Some((images_of_both, images.len()))
-}
+// How many entries there are before one of them is removed.
+const MANY: usize = 1_000_001;
 
 #[test]
 fn a_map_has_a_million_pointers(rt: HostRuntime) {
-    let asked: [P0; 2] = [pointer(2, 2), pointer(1_000_001, 2)];
-    let told = mapped(rt.alloc(), 1_000_001, &[1], asked);
-    let wanted = (
-        [Some(pointer(1, 4)), Some(pointer(1_000_000, 4))],
-        1_000_000,
-    );
-    is(told, Some(wanted)).expect(&rt, "the map");
+    let mut nodes: Nodes = Arena::on_heap(rt.alloc());
+    for number in 1..=MANY {
+        nodes.insert((number as u64, None)).expect(&rt, "memory");
+    }
+    drop(nodes.remove_inx(inx(1)));
+    let map = map_of(&mut nodes, rt.alloc(), false).expect(&rt, "memory for a map");
+    is(map.get(pointer(2, 2)).copied(), Some(pointer(1, 4))).expect(&rt, "the first");
+    is(
+        map.get(pointer(MANY, 2)).copied(),
+        Some(pointer(1_000_000, 4)),
+    )
+    .expect(&rt, "the last");
+    is(map.len(), 1_000_000).expect(&rt, "how many there are");
 }
 
-// Of so many entries under byte indexes, the map has the first and the last.
+// Of so many entries under byte indexes, the map of a compaction has the first and the last.
 fn maps_narrow(rt: &impl Abort, alloc: Global, count: usize) {
-    let asked: [Narrow; 2] = [pointer(1, 2), pointer(count, 2)];
-    let told = mapped(alloc, count as u64, &[], asked);
-    let wanted = ([Some(pointer(1, 3)), Some(pointer(count, 3))], count);
-    is(told, Some(wanted)).expect(rt, "the map");
+    let mut nodes: StrictArena<Narrow, Node<Narrow>> = StrictArena::new(alloc);
+    for number in 1..=count {
+        nodes.insert((number as u64, None)).expect(rt, "memory");
+    }
+    let map = nodes.compress_recast(alloc).expect(rt, "memory for a map");
+    is(map.get(pointer(1, 2)).copied(), Some(pointer(1, 3))).expect(rt, "the first");
+    is(map.get(pointer(count, 2)).copied(), Some(pointer(count, 3))).expect(rt, "the last");
+    is(map.len(), count).expect(rt, "how many there are");
 }
 
 /// There is no index 256, the power of two above both.
